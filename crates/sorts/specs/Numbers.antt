@@ -1,0 +1,57 @@
+-- Document 01, "Sorts and statement numbers".
+use mathlib.Core.Bool.{Bool, true, false}
+use Prim.Native.Nat.{ℕ, _+_, _*_, _<_}
+use Rattle.sorts.specs.declared.Prin.{Prin}
+use Rattle.sorts.specs.declared.GrantNo.{GrantNo}
+use Rattle.sorts.specs.declared.Pack.{Pack}
+use Rattle.sorts.specs.declared.Res.{Res}
+use Rattle.sorts.specs.declared.Res.the-variants.{Issue, Run, Export}
+use Rattle.sorts.specs.declared.Concl.{Concl}
+use Rattle.sorts.specs.declared.Concl.the-variants.{Property, Perm}
+
+-- "16 principals, 16 properties, 32 packs and 64 grant numbers, each counted from 0."
+-- "A closed conclusion is Property(k, p) or Perm(p, right, resource)": one whose numbers are in these ranges.
+abbrev pub ClosedRes : Res → Type 0
+ClosedRes (Issue g) = g .0 < 64
+ClosedRes (Run n) = n .0 < 32
+ClosedRes (Export n) = n .0 < 32
+
+abbrev pub ClosedConcl : Concl → Type 0
+ClosedConcl (Property k p) = (k < 16) × (p .0 < 16)
+ClosedConcl (Perm p r) = (p .0 < 16) × ClosedRes r
+
+-- "Its slot is k for property k, 16 + g for issue of grant g, 80 + n for run and 112 + n for export of pack n."
+abbrev pub slotOf : Res → ℕ
+slotOf (Issue g) = 16 + g .0
+slotOf (Run n) = 80 + n .0
+slotOf (Export n) = 112 + n .0
+
+-- "Its number is 144 times its principal plus its slot, from 0 to 2,303."
+abbrev pub numberOf : Concl → ℕ
+numberOf (Property k p) = 144 * p .0 + k
+numberOf (Perm p r) = 144 * p .0 + slotOf r
+
+-- "Mark 2,304 + 2,304 × s + c says that principal s said c."
+abbrev pub saidMark : ℕ → ℕ → ℕ
+saidMark s c = 2304 + 2304 * s + c
+
+-- A statement is what one mark says: that a conclusion is true, or that a principal said it.
+pub data Statement : Type 0 where
+  truth : Concl → Statement
+  said : Prin → Concl → Statement
+
+abbrev pub ClosedStatement : Statement → Type 0
+ClosedStatement (truth c) = ClosedConcl c
+ClosedStatement (said s c) = (s .0 < 16) × ClosedConcl c
+
+-- "Mark c says that conclusion c is true. Mark 2,304 + 2,304 × s + c says that principal s said c."
+abbrev pub markOf : Statement → ℕ
+markOf (truth c) = numberOf c
+markOf (said s c) = saidMark (s .0) (numberOf c)
+
+-- "So there are 39,168 marks."
+abbrev pub conclusions : ℕ
+conclusions = 2304
+
+abbrev pub allMarks : ℕ
+allMarks = 39168
