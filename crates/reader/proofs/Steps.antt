@@ -24,11 +24,11 @@ grant-step (suc n) s at t f = ap (λ (k : ℕ). numWith (numGrant k s) s at t) (
 abbrev pub condsStep : (ℕ → Numbering → GrantReading) → Scope → List ℕ → ℕ → ℕ → ℕ → List Cond → Numbering → CondsReading
 condsStep inner v s k at i cs t =
     onOutcome (principal v s at) (noE t cs) (λ p n1.
-      onConcl (numConcl inner v s n1 t .out) (noE (numConcl inner v s n1 t .table) cs) (λ c n2.
-        numConds inner v s k n2 (i + 1) (set cs i (record { who = record { 0 = p }; what = c })) (numConcl inner v s n1 t .table)))
+    onConcl (numConcl inner v s n1 t .out) (noE (numConcl inner v s n1 t .table) cs) (λ c n2.
+    numConds inner v s k n2 (i + 1) (set cs i (record { who = record { 0 = p }; what = c })) (numConcl inner v s n1 t .table)))
 
 pub conds-step : (inner : ℕ → Numbering → GrantReading) (v : Scope) (s : List ℕ) (k at i : ℕ) (cs : List Cond) (t : Numbering) → (k ≡ 0 → ⊥) →
-  numConds inner v s k at i cs t ≡ condsStep inner v s (k - 1) at i cs t
+    numConds inner v s k at i cs t ≡ condsStep inner v s (k - 1) at i cs t
 unfolding numConds
 conds-step inner v s zero at i cs t f = absurd (f refl)
 conds-step inner v s (suc n) at i cs t f = ap (λ (k : ℕ). condsStep inner v s k at i cs t) (sym (sub-one (suc n)))

@@ -34,23 +34,23 @@ declared is b n = cond is (got b n) (refused 4)
 unfoldable pub principal : Scope → List ℕ → ℕ → Outcome ℕ
 principal v s at =
     andThen (byteAt s at) (λ b n.
-      cond (ltb b 16) (got b n)
-      (cond (eqb b 128) (declared (ltb 0 (v .prins)) b n)
-      (cond (eqb b 129) (declared (ltb 1 (v .prins)) b n) (refused 3))))
+    cond (ltb b 16) (got b n)
+    (cond (eqb b 128) (declared (ltb 0 (v .prins)) b n)
+    (cond (eqb b 129) (declared (ltb 1 (v .prins)) b n) (refused 3))))
 
 -- "a pack 00 to 1F, or 80 for the pack variable"
 unfoldable pub pack : Scope → List ℕ → ℕ → Outcome ℕ
 pack v s at =
     andThen (byteAt s at) (λ b n.
-      cond (ltb b 32) (got b n)
-      (cond (eqb b 128) (declared (eqb (v .res) 2) b n) (refused 3)))
+    cond (ltb b 32) (got b n)
+    (cond (eqb b 128) (declared (eqb (v .res) 2) b n) (refused 3)))
 
 -- "00 and a whole grant, or 01 for the grant variable"; "a listed variable byte that is undeclared is 4, also at 01 after an issue"
 unfoldable pub form : Scope → List ℕ → ℕ → Outcome ℕ
 form v s at =
     andThen (byteAt s at) (λ b n.
-      cond (eqb b 0) (got b n)
-      (cond (eqb b 1) (declared (eqb (v .res) 1) b n) (refused 3)))
+    cond (eqb b 0) (got b n)
+    (cond (eqb b 1) (declared (eqb (v .res) 1) b n) (refused 3)))
 
 -- "one byte, how many principal variables, 0 to 2; one byte, the resource variable: 00 none, 01 over grants, 02 over packs;
 -- one byte, how many conditions, 0 to 4"
@@ -61,6 +61,6 @@ pub record Head : Type 0 where
 unfoldable pub head : List ℕ → ℕ → Outcome Head
 head s at =
     andThen (upto 2 s at) (λ prins n1.
-      andThen (upto 2 s n1) (λ res n2.
-        andThen (upto 4 s n2) (λ count n3.
-          got (record { scope = record { prins = prins; res = res }; count = count }) n3)))
+    andThen (upto 2 s n1) (λ res n2.
+    andThen (upto 4 s n2) (λ count n3.
+    got (record { scope = record { prins = prins; res = res }; count = count }) n3)))

@@ -1,2 +1,4 @@
 pub mod Bytes
+pub mod Grants
+pub mod Records
 pub mod inner

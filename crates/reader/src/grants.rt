@@ -1,8 +1,16 @@
 // The readers of a grant and of a conclusion, which call each other: one pass from left to right that reads and numbers.
 use crate::bytes;
-use crate::bytes::{Got, HeadOut, Scope};
+use crate::bytes::Got;
+use crate::bytes::HeadOut;
+use crate::bytes::Scope;
 use rows::Numbering;
-use sorts::{Concl, Cond, GrantNo, Pack, Prin, Res, Row};
+use sorts::Concl;
+use sorts::Cond;
+use sorts::GrantNo;
+use sorts::Pack;
+use sorts::Prin;
+use sorts::Res;
+use sorts::Row;
 ghost use mathlib.Core.Path.{_≡_};
 ghost use Prim.Native.Nat.{_≤_, _<_, _+_};
 ghost use Rattle.reader.specs.inner.OnePass.{numGrant, numConcl, numConds, numIssue, numGranted, numProperty, numPacked};
@@ -153,7 +161,10 @@ fn read_conds(
                 },
                 ConclOut::Got(what, n2) => {
                     let mut more = conds;
-                    more[i] = Cond { who: Prin(who), what };
+                    more[i] = Cond {
+                        who: Prin(who),
+                        what,
+                    };
                     read_conds(s, n2, below, v, k - 1, i + 1, more, u)
                 }
             }

@@ -8,7 +8,8 @@ use lib.Dec.{ltb}
 use native.Mathlib.Omega.{arith}
 use borrow.Author.Tests.{le-ltb, lt-ltb, ltb-false, ltb-true}
 use Rattle.sorts.specs.declared.Row.{Row}
-use Rattle.rows.specs.inner.Lookup.{findRow, findFrom, sameRow, noRow}
+use Rattle.rows.specs.inner.Lookup.{findRow, findFrom, sameRow}
+use Rattle.sorts.specs.Blank.{noRow}
 
 pub find-end : (rows : List Row) (r : Row) (i count : ℕ) → count ≤ i → findRow rows r i count ≡ count
 unfolding findRow

@@ -1,3 +1,5 @@
 pub mod Written
 pub mod Numbering
+pub mod Form
+pub mod Allowed
 pub mod inner

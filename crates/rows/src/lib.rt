@@ -1,5 +1,9 @@
 // The grant table: the rows by number, looking a row up, and giving a new row the lowest number not given.
-use sorts::{Concl, Cond, GrantNo, Res, Row};
+use sorts::Concl;
+use sorts::Cond;
+use sorts::GrantNo;
+use sorts::Res;
+use sorts::Row;
 ghost use mathlib.Core.Path.{_≡_};
 ghost use Prim.Native.Nat.{_≤_, _<_};
 ghost use Rattle.rows.specs.inner.Lookup.{sameRes, sameConcl, sameCond, sameRow, findRow, entered};
@@ -56,24 +60,12 @@ pub fn same_concl(a: Concl, b: Concl) -> bool
 {
     match a {
         Concl::Property(k, p) => match b {
-            Concl::Property(l, q) => {
-                if k == l {
-                    p.0 == q.0
-                } else {
-                    false
-                }
-            }
+            Concl::Property(l, q) => { if k == l { p.0 == q.0 } else { false } }
             Concl::Perm(_, _) => false,
         },
         Concl::Perm(p, x) => match b {
             Concl::Property(_, _) => false,
-            Concl::Perm(q, y) => {
-                if p.0 == q.0 {
-                    same_res(x, y)
-                } else {
-                    false
-                }
-            }
+            Concl::Perm(q, y) => { if p.0 == q.0 { same_res(x, y) } else { false } }
         },
     }
 }
@@ -86,11 +78,7 @@ pub fn same_cond(a: Cond, b: Cond) -> bool
     let q = b.who;
     let x = a.what;
     let y = b.what;
-    if p.0 == q.0 {
-        same_concl(x, y)
-    } else {
-        false
-    }
+    if p.0 == q.0 { same_concl(x, y) } else { false }
 }
 
 // Whether two rows are the same.

@@ -1,4 +1,5 @@
 -- "A blank row, like an unused condition, has no variables or conditions and byte 00 in every place."
+use mathlib.Core.List.{[]}
 use lib.ListN.{replicate}
 use Rattle.sorts.specs.declared.Concl.{Concl}
 use Rattle.sorts.specs.declared.Concl.the-variants.{Property}
@@ -13,3 +14,7 @@ blankCond = record { who = record { 0 = 0 }; what = blankConcl }
 
 abbrev pub blankRow : Row
 blankRow = record { prins = 0; res = 0; count = 0; conds = replicate 4 blankCond; head = blankConcl }
+
+-- What stands past the end of a list of rows.
+abbrev pub noRow : Row
+noRow = record { prins = 0; res = 0; count = 0; conds = []; head = blankConcl }

@@ -61,35 +61,35 @@ noE t cs k = record { table = t; conds = cs; out = conds.Refused k }
 unfoldable pub numProperty : Scope → List ℕ → ℕ → ConclOut
 numProperty v s at =
     onOutcome (upto 15 s at) concl.Refused (λ k n1.
-      onOutcome (principal v s n1) concl.Refused (λ p n2. concl.Got (Property k (record { 0 = p })) n2))
+    onOutcome (principal v s n1) concl.Refused (λ p n2. concl.Got (Property k (record { 0 = p })) n2))
 
 unfoldable pub numPacked : Scope → ℕ → Prin → List ℕ → ℕ → ConclOut
 numPacked v kind p s at =
     onOutcome (pack v s at) concl.Refused (λ n n1.
-      cond (eqb kind 2) (concl.Got (Perm p (Run (record { 0 = n }))) n1) (concl.Got (Perm p (Export (record { 0 = n }))) n1))
+    cond (eqb kind 2) (concl.Got (Perm p (Run (record { 0 = n }))) n1) (concl.Got (Perm p (Export (record { 0 = n }))) n1))
 
 -- `inner` reads and numbers an inner grant
 unfoldable pub numIssue : (ℕ → Numbering → GrantReading) → Scope → Prin → List ℕ → ℕ → Numbering → ConclReading
 numIssue inner v p s at t =
     onOutcome (form v s at) (noC t) (λ b n1.
-      cond (eqb b 1) (gotC t (Perm p (Issue (record { 0 = 128 }))) n1)
-      (onGrant (inner n1 t .out) (noC (inner n1 t .table)) (λ g n2. gotC (inner n1 t .table) (Perm p (Issue g)) n2)))
+    cond (eqb b 1) (gotC t (Perm p (Issue (record { 0 = 128 }))) n1)
+    (onGrant (inner n1 t .out) (noC (inner n1 t .table)) (λ g n2. gotC (inner n1 t .table) (Perm p (Issue g)) n2)))
 
 unfoldable pub numConcl : (ℕ → Numbering → GrantReading) → Scope → List ℕ → ℕ → Numbering → ConclReading
 numConcl inner v s at t =
     onOutcome (upto 3 s at) (noC t) (λ kind n1.
-      cond (eqb kind 0) (record { table = t; out = numProperty v s n1 })
-      (onOutcome (principal v s n1) (noC t) (λ p n2.
-        cond (eqb kind 1) (numIssue inner v (record { 0 = p }) s n2 t)
-        (record { table = t; out = numPacked v kind (record { 0 = p }) s n2 }))))
+    cond (eqb kind 0) (record { table = t; out = numProperty v s n1 })
+    (onOutcome (principal v s n1) (noC t) (λ p n2.
+    cond (eqb kind 1) (numIssue inner v (record { 0 = p }) s n2 t)
+    (record { table = t; out = numPacked v kind (record { 0 = p }) s n2 }))))
 
 -- k more conditions, the first at place i
 unfoldable pub numConds : (ℕ → Numbering → GrantReading) → Scope → List ℕ → ℕ → ℕ → ℕ → List Cond → Numbering → CondsReading
 numConds inner v s zero at i cs t = record { table = t; conds = cs; out = conds.At at }
 numConds inner v s (suc k) at i cs t =
     onOutcome (principal v s at) (noE t cs) (λ p n1.
-      onConcl (numConcl inner v s n1 t .out) (noE (numConcl inner v s n1 t .table) cs) (λ c n2.
-        numConds inner v s k n2 (i + 1) (set cs i (record { who = record { 0 = p }; what = c })) (numConcl inner v s n1 t .table)))
+    onConcl (numConcl inner v s n1 t .out) (noE (numConcl inner v s n1 t .table) cs) (λ c n2.
+    numConds inner v s k n2 (i + 1) (set cs i (record { who = record { 0 = p }; what = c })) (numConcl inner v s n1 t .table)))
 
 abbrev pub rowed : Entered → ℕ → GrantReading
 rowed e n = gotG (e .table) (e .no) n
@@ -98,8 +98,8 @@ rowed e n = gotG (e .table) (e .no) n
 unfoldable pub numGranted : (ℕ → Numbering → GrantReading) → Scope → ℕ → List ℕ → CondsReading → GrantReading
 numGranted inner v count s a =
     onConds (a .out) (noG (a .table)) (λ at.
-      onConcl (numConcl inner v s at (a .table) .out) (noG (numConcl inner v s at (a .table) .table)) (λ c n.
-        rowed (entered (numConcl inner v s at (a .table) .table) (record { prins = v .prins; res = v .res; count = count; conds = a .conds; head = c })) n))
+    onConcl (numConcl inner v s at (a .table) .out) (noG (numConcl inner v s at (a .table) .table)) (λ c n.
+    rowed (entered (numConcl inner v s at (a .table) .table) (record { prins = v .prins; res = v .res; count = count; conds = a .conds; head = c })) n))
 
 abbrev pub blankConds : List Cond
 blankConds = replicate 4 blankCond
@@ -107,7 +107,7 @@ blankConds = replicate 4 blankCond
 unfoldable pub numWith : (ℕ → Numbering → GrantReading) → List ℕ → ℕ → Numbering → GrantReading
 numWith inner s at t =
     onOutcome (head s at) (noG t) (λ h n.
-      numGranted inner (h .scope) (h .count) s (numConds inner (h .scope) s (h .count) n 0 blankConds t))
+    numGranted inner (h .scope) (h .count) s (numConds inner (h .scope) s (h .count) n 0 blankConds t))
 
 unfoldable pub numGrant : ℕ → List ℕ → ℕ → Numbering → GrantReading
 numGrant zero s at t = noG t 5

@@ -1,6 +1,6 @@
 -- Looking a row up and entering it, as the code does it.
 use Prim.Native.Nat.{ℕ, zero, suc, _+_, _-_}
-use mathlib.Core.List.{List, []}
+use mathlib.Core.List.{List}
 use mathlib.Core.Bool.{Bool, true, false, cond}
 use lib.ListN.{getD, set}
 use lib.Dec.{ltb, eqb}
@@ -10,7 +10,7 @@ use Rattle.sorts.specs.declared.Concl.{Concl}
 use Rattle.sorts.specs.declared.Concl.the-variants.{Property, Perm}
 use Rattle.sorts.specs.declared.Cond.{Cond}
 use Rattle.sorts.specs.declared.Row.{Row}
-use Rattle.sorts.specs.Blank.{blankCond, blankConcl}
+use Rattle.sorts.specs.Blank.{blankCond, noRow}
 use Rattle.rows.specs.declared.Numbering.{Numbering}
 use Rattle.rows.specs.declared.Entered.{Entered}
 
@@ -45,12 +45,8 @@ condAt r i = getD (r .conds) i blankCond
 unfoldable pub sameRow : Row → Row → Bool
 sameRow a b =
     both (eqb (a .prins) (b .prins)) (both (eqb (a .res) (b .res)) (both (eqb (a .count) (b .count))
-      (both (sameCond (condAt a 0) (condAt b 0)) (both (sameCond (condAt a 1) (condAt b 1)) (both (sameCond (condAt a 2) (condAt b 2)) (both (sameCond (condAt a 3) (condAt b 3))
-        (sameConcl (a .head) (b .head))))))))
-
--- what stands past the end of a list of rows
-abbrev pub noRow : Row
-noRow = record { prins = 0; res = 0; count = 0; conds = []; head = blankConcl }
+    (both (sameCond (condAt a 0) (condAt b 0)) (both (sameCond (condAt a 1) (condAt b 1)) (both (sameCond (condAt a 2) (condAt b 2)) (both (sameCond (condAt a 3) (condAt b 3))
+    (sameConcl (a .head) (b .head))))))))
 
 -- the place of r among the next n rows from i on, or the place after them
 unfoldable pub findFrom : List Row → Row → ℕ → ℕ → ℕ
@@ -65,5 +61,5 @@ unfoldable pub entered : Numbering → Row → Entered
 entered t r = cond (ltb (findRow (t .rows) r 0 (t .count)) (t .count))
     (record { table = t; no = record { 0 = findRow (t .rows) r 0 (t .count) } })
     (cond (ltb (t .count) 64)
-      (record { table = record { rows = set (t .rows) (t .count) r; count = t .count + 1; full = t .full }; no = record { 0 = t .count } })
-      (record { table = record { rows = t .rows; count = t .count; full = true }; no = record { 0 = 0 } }))
+    (record { table = record { rows = set (t .rows) (t .count) r; count = t .count + 1; full = t .full }; no = record { 0 = t .count } })
+    (record { table = record { rows = t .rows; count = t .count; full = true }; no = record { 0 = 0 } }))
