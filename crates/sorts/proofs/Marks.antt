@@ -27,13 +27,13 @@ mark-lt (truth c) h = omega (arith, number-lt c h)
 mark-lt (said s c) h = omega (arith, number-lt c (h .1))
 
 -- A tuple struct of one number is known by the number.
-prin-is : (p q : Prin) → p .0 ≡ q .0 → p ≡ q
+pub prin-is : (p q : Prin) → p .0 ≡ q .0 → p ≡ q
 prin-is p q e = λ i. record { 0 = e i }
 
-grant-is : (g h : GrantNo) → g .0 ≡ h .0 → g ≡ h
+pub grant-is : (g h : GrantNo) → g .0 ≡ h .0 → g ≡ h
 grant-is g h e = λ i. record { 0 = e i }
 
-pack-is : (m n : Pack) → m .0 ≡ n .0 → m ≡ n
+pub pack-is : (m n : Pack) → m .0 ≡ n .0 → m ≡ n
 pack-is m n e = λ i. record { 0 = e i }
 
 pub slot-same : (r t : Res) → ClosedRes r → ClosedRes t → slotOf r ≡ slotOf t → r ≡ t
