@@ -1,2 +1,4 @@
 pub mod Answers
+pub mod Fuse
+pub mod RowForms
 pub mod Steps
