@@ -1,6 +1,6 @@
 -- An answer of the code tells what the definition found.
 use Prim.Native.Nat.{ℕ}
-use mathlib.Core.Path.{_≡_, refl}
+use mathlib.Core.Path.{_≡_}
 use native.Mathlib.Omega.{arith}
 use Rattle.reader.specs.Bytes.{Outcome, got, refused, Head}
 use Rattle.reader.specs.inner.Answers.{asByte, asHead}

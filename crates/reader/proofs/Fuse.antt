@@ -3,13 +3,12 @@ use Prim.Native.Nat.{ℕ, zero, suc, _+_, _<_, _≤_}
 use mathlib.Core.List.{List, [], _∷_, _++_, append-assoc}
 use mathlib.Core.Bool.{Bool, true, false, cond}
 use mathlib.Core.Path.{_≡_, refl, sym, ap, subst, _∙_}
-use mathlib.Core.Logic.{_⊎_, inl, inr}
+use mathlib.Core.Logic.{inl, inr}
 use native.Mathlib.Omega.{arith}
 use lib.ListN.{length, getD, set, length-append, length-set}
 use lib.Seq.{getD-set-same, getD-set-other}
 use lib.Dec.{eqb, ltb}
 use borrow.Author.Tests.{eqb-true, eqb-false, ltb-true}
-use Rattle.sorts.specs.declared.Prin.{Prin}
 use Rattle.sorts.specs.declared.GrantNo.{GrantNo}
 use Rattle.sorts.specs.declared.Res.the-variants.{Issue, Run, Export}
 use Rattle.sorts.specs.declared.Concl as rc
@@ -22,8 +21,8 @@ use Rattle.rows.specs.declared.Entered.{Entered}
 use Rattle.rows.specs.inner.Lookup.{entered, findRow}
 use Rattle.rows.specs.Written.{Grant, Conds, Concl, Right, grant, none, also, property, perm, issue, issueAny, run, export}
 use Rattle.rows.specs.Numbering.{has, add, number, numberConds, numberConcl, numberRight}
-use Rattle.rows.specs.Form.{writeConcl, writeConds, writeRow, depth, PrinForm, ConclForm, CondForm, RowForm}
-use Rattle.rows.specs.Allowed.{Allowed, AllowedConds, AllowedConcl}
+use Rattle.rows.specs.Form.{writeConcl, writeConds, writeRow, depth, RowForm}
+use Rattle.rows.specs.Allowed.{Allowed}
 use Rattle.rows.proofs.Bytes.{no-true}
 use Rattle.rows.proofs.Rows.{ConclBelow, concl-up, concl-ext, conds-ext, write-issue}
 use Rattle.rows.proofs.Entering.{Good, tied, over, Names, Put, put}
@@ -37,8 +36,9 @@ use Rattle.reader.specs.declared.grants.CondsOut.the-variants as conds
 use Rattle.reader.specs.declared.grants.CondsReading.{CondsReading}
 use Rattle.reader.specs.Bytes.{Outcome, got, refused, andThen, Head, upto, principal, pack, form, head}
 use Rattle.reader.specs.Grants.{readProperty, readPacked, readIssue, readConcl, readConds, readWith, readGrant}
-use Rattle.reader.specs.inner.OnePass.{onOutcome, onGrant, onConcl, onConds, gotG, noG, gotC, noC, noE, rowed, numProperty, numPacked, numIssue, numConcl, numConds, numGranted, numWith, numGrant, blankConds}
+use Rattle.reader.specs.inner.OnePass.{onOutcome, onGrant, onConcl, noG, gotC, noC, noE, rowed, numProperty, numPacked, numIssue, numConcl, numConds, numGranted, numWith, numGrant, blankConds}
 use Rattle.reader.proofs.Steps.{head-is}
+use Rattle.reader.proofs.Allowed.{read-allowed}
 use Rattle.reader.proofs.RowForms.{row-form}
 
 -- N' is N and more
@@ -70,6 +70,7 @@ add-ext g N = go (has g N)
 -- numbering only appends
 mutual
   unfolding number
+
   pub number-ext : (g : Grant) (N : List Grant) → Ext N (number g N)
   number-ext (grant v r cs c) N = ext-trans (conds-more cs N) (ext-trans (concl-more c (numberConds cs N)) (add-ext (grant v r cs c) (numberConcl c (numberConds cs N))))
 
@@ -129,7 +130,7 @@ module _ (N : List Grant) (t : Numbering) where
 
   -- a conclusion that holds no grant
   plainC : (o : Outcome ℕ) (F : ℕ → ℕ → Outcome Concl) (G : ℕ → ℕ → ConclOut) → ((b n : ℕ) → FuseC N (F b n) (record { table = t; out = G b n })) →
-    FuseC N (andThen o F) (record { table = t; out = onOutcome o concl.Refused G })
+      FuseC N (andThen o F) (record { table = t; out = onOutcome o concl.Refused G })
   plainC (got b n) F G h = h b n
   plainC (refused k) F G h = refl
 
@@ -137,20 +138,20 @@ fuse-property : (v : Scope) (s : List ℕ) (at : ℕ) (t : Numbering) (N : List 
 unfolding readProperty numProperty number
 fuse-property v s at t N G =
     plainC N t (upto 15 s at) _ _ (λ k n1. plainC N t (principal v s n1) _ _ (λ p n2.
-      record { row = Property k (record { 0 = p }); out = refl; good = G; names = λ e. (tt, refl) }))
+    record { row = Property k (record { 0 = p }); out = refl; good = G; names = λ e. (tt, refl) }))
 
 fuse-packed : (v : Scope) (kind p : ℕ) (s : List ℕ) (at : ℕ) (t : Numbering) (N : List Grant) → Good t N →
-  FuseC N (readPacked v kind p s at) (record { table = t; out = numPacked v kind (record { 0 = p }) s at })
+    FuseC N (readPacked v kind p s at) (record { table = t; out = numPacked v kind (record { 0 = p }) s at })
 unfolding readPacked numPacked number
 fuse-packed v kind p s at t N G = plainC N t (pack v s at) _ _ (λ n n1. go n n1 (eqb kind 2))
   where
     go : (n n1 : ℕ) (b : Bool) → FuseC N (got (perm p (cond b (run n) (export n))) n1)
-      (record { table = t; out = cond b (concl.Got (Perm (record { 0 = p }) (Run (record { 0 = n }))) n1) (concl.Got (Perm (record { 0 = p }) (Export (record { 0 = n }))) n1) })
+        (record { table = t; out = cond b (concl.Got (Perm (record { 0 = p }) (Run (record { 0 = n }))) n1) (concl.Got (Perm (record { 0 = p }) (Export (record { 0 = n }))) n1) })
     go n n1 true = record { row = Perm (record { 0 = p }) (Run (record { 0 = n })); out = refl; good = G; names = λ e. (tt, refl) }
     go n n1 false = record { row = Perm (record { 0 = p }) (Export (record { 0 = n })); out = refl; good = G; names = λ e. (tt, refl) }
 
 innerC : (N : List Grant) (p : ℕ) (o : Outcome Grant) (R : GrantReading) → FuseG N o R →
-  FuseC N (andThen o (λ g n. got (perm p (issue g)) n)) (onGrant (R .out) (noC (R .table)) (λ g n. gotC (R .table) (Perm (record { 0 = p }) (Issue g)) n))
+    FuseC N (andThen o (λ g n. got (perm p (issue g)) n)) (onGrant (R .out) (noC (R .table)) (λ g n. gotC (R .table) (Perm (record { 0 = p }) (Issue g)) n))
 unfolding number Names
 innerC N p (got g n) R f =
     rw (f .out) (record {
@@ -161,7 +162,8 @@ innerC N p (got g n) R f =
           let m = f .names e in
           let l = m .0 in
           let s = good-small (f .good) e in
-          (inl l, ap (perm p) (write-issue (number g N) (f .no .0) (omega arith) ∙ ap issue (m .1))) })
+          (inl l, ap (perm p) (write-issue (number g N) (f .no .0) (omega arith) ∙ ap issue (m .1)));
+    })
 innerC N p (refused k) R f = rw f refl
 
 abbrev Inner : (ℕ → Outcome Grant) → (ℕ → Numbering → GrantReading) → Type 0
@@ -172,20 +174,20 @@ module _ (inner : ℕ → Outcome Grant) (num : ℕ → Numbering → GrantReadi
   unfolding readIssue numIssue number
   fuse-issue p at t N G =
       byteC N t (form v s at) _ _ (λ b n1.
-        pickC N t (eqb b 1) _ _ _ _
-          (record { row = Perm (record { 0 = p }) (Issue (record { 0 = 128 })); out = refl; good = G; names = λ e. (inr refl, refl) })
-          (innerC N p (inner n1) (num n1 t) (ok n1 t N G)))
+      pickC N t (eqb b 1) _ _ _ _
+      (record { row = Perm (record { 0 = p }) (Issue (record { 0 = 128 })); out = refl; good = G; names = λ e. (inr refl, refl) })
+      (innerC N p (inner n1) (num n1 t) (ok n1 t N G)))
 
   pub fuse-concl : (at : ℕ) (t : Numbering) (N : List Grant) → Good t N → FuseC N (readConcl inner v s at) (numConcl num v s at t)
   unfolding readConcl numConcl
   fuse-concl at t N G =
       byteC N t (upto 3 s at) _ _ (λ kind n1.
-        pickC N t (eqb kind 0) _ _ _ _
-          (fuse-property v s n1 t N G)
-          (byteC N t (principal v s n1) _ _ (λ p n2.
-            pickC N t (eqb kind 1) _ _ _ _
-              (fuse-issue p n2 t N G)
-              (fuse-packed v kind p s n2 t N G))))
+      pickC N t (eqb kind 0) _ _ _ _
+      (fuse-property v s n1 t N G)
+      (byteC N t (principal v s n1) _ _ (λ p n2.
+      pickC N t (eqb kind 1) _ _ _ _
+      (fuse-issue p n2 t N G)
+      (fuse-packed v kind p s n2 t N G))))
 
 -- the conditions read so far, i of them, and room for k more
 record Acc (t : Numbering) (N : List Grant) (cs : List Cond) (i k : ℕ) : Type 0 where
@@ -215,25 +217,29 @@ said p row = record { who = record { 0 = p }; what = row }
 
 -- one condition in front of the rest
 wrapE : (N : List Grant) (cs : List Cond) (i k p : ℕ) (c : Concl) (row : rc.Concl) (t : Numbering) → length cs ≡ 4 → i < 4 → Good t (numberConcl c N) →
-  (t .full ≡ false → ConclBelow (length (numberConcl c N)) row × (writeConcl (numberConcl c N) row ≡ c)) →
-  (o : Outcome Conds) (R : CondsReading) → FuseE (numberConcl c N) (set cs i (said p row)) (i + 1) k o R →
-  FuseE N cs i (suc k) (andThen o (λ cs' n3. got (also p c cs') n3)) R
+    (t .full ≡ false → ConclBelow (length (numberConcl c N)) row × (writeConcl (numberConcl c N) row ≡ c)) →
+    (o : Outcome Conds) (R : CondsReading) → FuseE (numberConcl c N) (set cs i (said p row)) (i + 1) k o R →
+    FuseE N cs i (suc k) (andThen o (λ cs' n3. got (also p c cs') n3)) R
 unfolding number writeConds
 wrapE N cs i k p c row t len lt G nm (refused e) R f = f
 wrapE N cs i k p c row t len lt G nm (got cn n) R f = record {
-    out = f .out;
-    good = f .good;
-    four = f .four;
-    kept = λ j h. f .kept j (omega arith) ∙ getD-set-other cs i j (said p row) blankCond (λ (q : j ≡ i). omega arith);
-    blank = λ j h. f .blank j (omega arith);
-    names = λ e. (λ j h. f .names e .0 j (omega arith), tree e) }
+  out = f .out;
+  good = f .good;
+  four = f .four;
+  kept = λ j h. f .kept j (omega arith) ∙ getD-set-other cs i j (said p row) blankCond (λ (q : j ≡ i). omega arith);
+  blank = λ j h. f .blank j (omega arith);
+  names = λ e. (λ j h. f .names e .0 j (omega arith), tree e);
+}
   where
     N1 : List Grant
     N1 = numberConcl c N
+
     ext : Ext N1 (numberConds cn N1)
     ext = conds-more cn N1
+
     here : getD (R .conds) i blankCond ≡ said p row
     here = f .kept i (omega arith) ∙ getD-set-same cs i (said p row) blankCond (omega arith)
+
     tree : R .table .full ≡ false → also (getD (R .conds) i blankCond .who .0) (writeConcl (numberConds cn N1) (getD (R .conds) i blankCond .what)) (writeConds (numberConds cn N1) (R .conds) (i + 1) k) ≡ also p c cn
     tree e =
         let e1 = back G (f .good) ext e in
@@ -243,13 +249,14 @@ wrapE N cs i k p c row t len lt G nm (got cn n) R f = record {
 
 module _ (inner : ℕ → Outcome Grant) (num : ℕ → Numbering → GrantReading) (ok : Inner inner num) (v : Scope) (s : List ℕ) where
   acc-more : (t t' : Numbering) (N : List Grant) (cs : List Cond) (i k p : ℕ) (c : Concl) (row : rc.Concl) → Good t N → Good t' (numberConcl c N) → Acc t N cs i (suc k) →
-    (t' .full ≡ false → ConclBelow (length (numberConcl c N)) row × (writeConcl (numberConcl c N) row ≡ c)) →
-    Acc t' (numberConcl c N) (set cs i (said p row)) (i + 1) k
+      (t' .full ≡ false → ConclBelow (length (numberConcl c N)) row × (writeConcl (numberConcl c N) row ≡ c)) →
+      Acc t' (numberConcl c N) (set cs i (said p row)) (i + 1) k
   acc-more t t' N cs i k p c row G G' a nm = record {
-      four = length-set cs i (said p row) ∙ a .four;
-      room = let r = a .room in omega arith;
-      below = λ e j h. at e j h (eqb j i) refl;
-      blank = λ j h. getD-set-other cs i j (said p row) blankCond (λ (q : j ≡ i). omega arith) ∙ a .blank j (omega arith) }
+    four = length-set cs i (said p row) ∙ a .four;
+    room = let r = a .room in omega arith;
+    below = λ e j h. at e j h (eqb j i) refl;
+    blank = λ j h. getD-set-other cs i j (said p row) blankCond (λ (q : j ≡ i). omega arith) ∙ a .blank j (omega arith);
+  }
     where
       at : t' .full ≡ false → (j : ℕ) → j < i + 1 → (b : Bool) → eqb j i ≡ b → ConclBelow (length (numberConcl c N)) (getD (set cs i (said p row)) j blankCond .what)
       at e j h true q =
@@ -266,21 +273,27 @@ module _ (inner : ℕ → Outcome Grant) (num : ℕ → Numbering → GrantReadi
   fuse-conds : (k at i : ℕ) (cs : List Cond) (t : Numbering) (N : List Grant) → Good t N → Acc t N cs i k → FuseE N cs i k (readConds inner v s k at) (numConds num v s k at i cs t)
   unfolding readConds numConds number writeConds
   fuse-conds zero at i cs t N G a = record {
-      out = refl; good = G; four = a .four; kept = λ j h. refl; blank = λ j h. a .blank j (omega arith); names = λ e. (λ j h. a .below e j (omega arith), refl) }
+    out = refl;
+    good = G;
+    four = a .four;
+    kept = λ j h. refl;
+    blank = λ j h. a .blank j (omega arith);
+    names = λ e. (λ j h. a .below e j (omega arith), refl);
+  }
   fuse-conds (suc k) at i cs t N G a =
       byteE N cs i (suc k) t (principal v s at) _ _ (λ p n1.
-        go p (readConcl inner v s n1) (numConcl num v s n1 t) (fuse-concl inner num ok v s n1 t N G)
-          (λ n2 cs' t' N' G' a'. fuse-conds k n2 (i + 1) cs' t' N' G' a'))
+      go p (readConcl inner v s n1) (numConcl num v s n1 t) (fuse-concl inner num ok v s n1 t N G)
+      (λ n2 cs' t' N' G' a'. fuse-conds k n2 (i + 1) cs' t' N' G' a'))
     where
       go : (p : ℕ) (o : Outcome Concl) (R : ConclReading) → FuseC N o R →
-        ((n2 : ℕ) (cs' : List Cond) (t' : Numbering) (N' : List Grant) → Good t' N' → Acc t' N' cs' (i + 1) k → FuseE N' cs' (i + 1) k (readConds inner v s k n2) (numConds num v s k n2 (i + 1) cs' t')) →
-        FuseE N cs i (suc k) (andThen o (λ c n2. andThen (readConds inner v s k n2) (λ cs' n3. got (also p c cs') n3)))
+          ((n2 : ℕ) (cs' : List Cond) (t' : Numbering) (N' : List Grant) → Good t' N' → Acc t' N' cs' (i + 1) k → FuseE N' cs' (i + 1) k (readConds inner v s k n2) (numConds num v s k n2 (i + 1) cs' t')) →
+          FuseE N cs i (suc k) (andThen o (λ c n2. andThen (readConds inner v s k n2) (λ cs' n3. got (also p c cs') n3)))
           (onConcl (R .out) (noE (R .table) cs) (λ c n2. numConds num v s k n2 (i + 1) (set cs i (said p c)) (R .table)))
       go p (refused e) R f ih = rw f refl
       go p (got c n2) R f ih =
           rw (f .out)
           (wrapE N cs i k p c (f .row) (R .table) (a .four) (let r = a .room in omega arith) (f .good) (f .names) (readConds inner v s k n2) _
-            (ih n2 (set cs i (said p (f .row))) (R .table) (numberConcl c N) (f .good) (acc-more t (R .table) N cs i k p c (f .row) G (f .good) a (f .names))))
+          (ih n2 (set cs i (said p (f .row))) (R .table) (numberConcl c N) (f .good) (acc-more t (R .table) N cs i k p c (f .row) G (f .good) a (f .names))))
 
 -- a table without room stays so
 over-stays : (t : Numbering) (N : List Grant) (g : Grant) (x : Row) → t .full ≡ true → 64 < length N → t .count ≤ 64 → Put N g (entered t x)
@@ -289,10 +302,12 @@ over-stays t N g x f l c = go (ltb (findRow (t .rows) x 0 (t .count)) (t .count)
   where
     far : 64 < length (add g N)
     far = let e = ext-length (add-ext g N) in omega arith
+
     lost : (T : Numbering) (n : GrantNo) → T .full ≡ true → T .count ≤ 64 → Put N g (record { table = T; no = n })
     lost T n q h = record { good = over q far h; names = λ e. absurd (no-true (sym e ∙ q)) }
+
     go : (a b : Bool) → ltb (t .count) 64 ≡ b → Put N g (cond a (record { table = t; no = record { 0 = findRow (t .rows) x 0 (t .count) } })
-      (cond b (record { table = record { rows = set (t .rows) (t .count) x; count = t .count + 1; full = t .full }; no = record { 0 = t .count } })
+        (cond b (record { table = record { rows = set (t .rows) (t .count) x; count = t .count + 1; full = t .full }; no = record { 0 = t .count } })
         (record { table = record { rows = t .rows; count = t .count; full = true }; no = record { 0 = 0 } })))
     go true b q = lost t _ f c
     go false true q = let h = ltb-true (t .count) 64 q in lost _ _ f (omega arith)
@@ -310,24 +325,29 @@ blanks (suc (suc (suc zero))) h = refl
 blanks (suc (suc (suc (suc j)))) h = refl
 
 module _ (inner : ℕ → Outcome Grant) (num : ℕ → Numbering → GrantReading) (ok : Inner inner num) (s : List ℕ)
-  (allowed : (at : ℕ) (g : Grant) (n : ℕ) → readWith inner s at ≡ got g n → Allowed g × (depth g ≤ 4)) where
+    (allowed : (at : ℕ) (g : Grant) (n : ℕ) → readWith inner s at ≡ got g n → Allowed g × (depth g ≤ 4)) where
   -- the row is entered
   entered-row : (N : List Grant) (v : Scope) (count n n4 : ℕ) → (cn : Conds) (a : CondsReading) → FusedE N blankConds 0 count cn n4 a → (c : Concl) (b : ConclReading) (f : FusedC (numberConds cn N) c n b) →
-    Allowed (grant (v .prins) (v .res) cn c) × (depth (grant (v .prins) (v .res) cn c) ≤ 4) → count ≤ 4 →
-    Put (numberConcl c (numberConds cn N)) (grant (v .prins) (v .res) cn c) (entered (b .table) (record { prins = v .prins; res = v .res; count = count; conds = a .conds; head = f .row }))
+      Allowed (grant (v .prins) (v .res) cn c) × (depth (grant (v .prins) (v .res) cn c) ≤ 4) → count ≤ 4 →
+      Put (numberConcl c (numberConds cn N)) (grant (v .prins) (v .res) cn c) (entered (b .table) (record { prins = v .prins; res = v .res; count = count; conds = a .conds; head = f .row }))
   unfolding writeRow
   entered-row N v count n n4 cn a fa c b f al most = go (f .good)
     where
       N1 : List Grant
       N1 = numberConds cn N
+
       N2 : List Grant
       N2 = numberConcl c N1
+
       g : Grant
       g = grant (v .prins) (v .res) cn c
+
       x : Row
       x = record { prins = v .prins; res = v .res; count = count; conds = a .conds; head = f .row }
+
       ext : Ext N1 N2
       ext = concl-more c N1
+
       go : Good (b .table) N2 → Put N2 g (entered (b .table) x)
       go (over q l h) = over-stays (b .table) N2 g x q l h
       go (tied q R) =
@@ -335,17 +355,17 @@ module _ (inner : ℕ → Outcome Grant) (num : ℕ → Numbering → GrantReadi
           let ma = fa .names qa in
           let mb = f .names q in
           let tc : writeConds N2 (a .conds) 0 count ≡ cn =
-                ap (λ (l : List Grant). writeConds l (a .conds) 0 count) (ext .is) ∙ conds-ext N1 (ext .more) (good-small (fa .good) qa) (a .conds) 0 count (λ j h. ma .0 j h) ∙ ma .1 in
+          ap (λ (l : List Grant). writeConds l (a .conds) 0 count) (ext .is) ∙ conds-ext N1 (ext .more) (good-small (fa .good) qa) (a .conds) 0 count (λ j h. ma .0 j h) ∙ ma .1 in
           let same : writeRow N2 x ≡ g = λ z. grant (v .prins) (v .res) (tc z) (mb .1 z) in
           let F : RowForm (length N2) x =
-                row-form N2 (good-small (f .good) q) x (fa .four)
-                (λ j h. concl-up (length N1) (length N2) (getD (a .conds) j blankCond .what) (ext-length ext) (ma .0 j (omega arith)))
-                (λ j h. fa .blank j (omega arith)) (mb .0) most (subst Allowed (sym same) (al .0)) in
+          row-form N2 (good-small (f .good) q) x (fa .four)
+          (λ j h. concl-up (length N1) (length N2) (getD (a .conds) j blankCond .what) (ext-length ext) (ma .0 j (omega arith)))
+          (λ j h. fa .blank j (omega arith)) (mb .0) most (subst Allowed (sym same) (al .0)) in
           subst (λ (w : Grant). Put N2 w (entered (b .table) x)) same
           (put (b .table) N2 x q R F (subst (λ (w : Grant). depth w ≤ 4) (sym same) (al .1)))
 
   fuse-granted : (N : List Grant) (at n1 : ℕ) (h : Head) → head s at ≡ got h n1 → (o : Outcome Conds) (a : CondsReading) → readConds inner (h .scope) s (h .count) n1 ≡ o → FuseE N blankConds 0 (h .count) o a →
-    FuseG N (andThen o (λ cs n2. andThen (readConcl inner (h .scope) s n2) (λ c n3. got (grant (h .scope .prins) (h .scope .res) cs c) n3))) (numGranted num (h .scope) (h .count) s a)
+      FuseG N (andThen o (λ cs n2. andThen (readConcl inner (h .scope) s n2) (λ c n3. got (grant (h .scope .prins) (h .scope .res) cs c) n3))) (numGranted num (h .scope) (h .count) s a)
   unfolding numGranted readWith
   fuse-granted N at n1 h eh (refused k) a eo f = rw f refl
   fuse-granted N at n1 h eh (got cn n2) a eo f =
@@ -355,22 +375,30 @@ module _ (inner : ℕ → Outcome Grant) (num : ℕ → Numbering → GrantReadi
       whole c n3 ec = rw (eh, eo, ec)
 
       concl-then : (o : Outcome Concl) (b : ConclReading) → readConcl inner (h .scope) s n2 ≡ o → FuseC (numberConds cn N) o b →
-        FuseG N (andThen o (λ c n3. got (grant (h .scope .prins) (h .scope .res) cn c) n3))
+          FuseG N (andThen o (λ c n3. got (grant (h .scope .prins) (h .scope .res) cn c) n3))
           (onConcl (b .out) (noG (b .table)) (λ c n3. rowed (entered (b .table) (record { prins = h .scope .prins; res = h .scope .res; count = h .count; conds = a .conds; head = c })) n3))
       concl-then (refused k) b ec g = rw g refl
       concl-then (got c n3) b ec g =
           rw (g .out) (made N (h .scope .prins) (h .scope .res) cn c n3 _
-            (entered-row N (h .scope) (h .count) n3 n2 cn a f c b g (allowed at _ n3 (whole c n3 ec)) (head-is s at h n1 eh .count)))
+          (entered-row N (h .scope) (h .count) n3 n2 cn a f c b g (allowed at _ n3 (whole c n3 ec)) (head-is s at h n1 eh .count)))
 
   fuse-with : Inner (readWith inner s) (numWith num s)
   unfolding readWith numWith
   fuse-with at t N G = go (head s at) refl
     where
       go : (o : Outcome Head) → head s at ≡ o →
-        FuseG N (andThen o (λ h n1. andThen (readConds inner (h .scope) s (h .count) n1) (λ cs n2. andThen (readConcl inner (h .scope) s n2) (λ c n3. got (grant (h .scope .prins) (h .scope .res) cs c) n3))))
+          FuseG N (andThen o (λ h n1. andThen (readConds inner (h .scope) s (h .count) n1) (λ cs n2. andThen (readConcl inner (h .scope) s n2) (λ c n3. got (grant (h .scope .prins) (h .scope .res) cs c) n3))))
           (onOutcome o (noG t) (λ h n1. numGranted num (h .scope) (h .count) s (numConds num (h .scope) s (h .count) n1 0 blankConds t)))
       go (refused k) e = refl
       go (got h n1) e =
           fuse-granted N at n1 h e (readConds inner (h .scope) s (h .count) n1) (numConds num (h .scope) s (h .count) n1 0 blankConds t) refl
           (fuse-conds inner num ok (h .scope) s (h .count) n1 0 blankConds t N G
-            (record { four = refl; room = let m = head-is s at h n1 e .count in omega arith; below = λ e j h. absurd (omega arith); blank = blanks }))
+          (record { four = refl; room = let m = head-is s at h n1 e .count in omega arith; below = λ e j h. absurd (omega arith); blank = blanks }))
+
+-- What the one pass answers is what reading the grant and numbering it answers.
+pub fuse-grant : (d : ℕ) → d ≤ 4 → (s : List ℕ) → Inner (readGrant d s) (numGrant d s)
+unfolding readGrant numGrant
+fuse-grant zero l s at t N G = refl
+fuse-grant (suc d) l s at t N G =
+    fuse-with (readGrant d s) (numGrant d s) (fuse-grant d (omega arith) s) s
+    (λ at′ g n e. let a = read-allowed (suc d) s at′ g n e in let h = a .1 in (a .0, omega arith)) at t N G

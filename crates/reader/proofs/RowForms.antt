@@ -3,7 +3,7 @@ use Prim.Native.Nat.{ℕ, zero, suc, _+_, _<_, _≤_}
 use mathlib.Core.List.{List}
 use mathlib.Core.Bool.{Bool, true, false}
 use mathlib.Core.Path.{_≡_, refl, subst}
-use mathlib.Core.Logic.{_⊎_, inl, inr}
+use mathlib.Core.Logic.{inl, inr}
 use native.Mathlib.Omega.{arith}
 use lib.ListN.{length, getD}
 use lib.Dec.{eqb}
@@ -34,7 +34,7 @@ module _ (N : List Grant) where
   concl-form prins res (Perm p x) b a = (a .0, res-form res x b (a .1))
 
   conds-form : (prins res : ℕ) (cs : List Cond) (i k : ℕ) → ((j : ℕ) → j < i + k → ConclBelow (length N) (getD cs j blankCond .what)) →
-    AllowedConds prins res (writeConds N cs i k) → (j : ℕ) → i ≤ j → j < i + k → CondForm (length N) prins res (getD cs j blankCond)
+      AllowedConds prins res (writeConds N cs i k) → (j : ℕ) → i ≤ j → j < i + k → CondForm (length N) prins res (getD cs j blankCond)
   unfolding Allowed writeConds
   conds-form prins res cs i zero b a j l h = absurd (omega arith)
   conds-form prins res cs i (suc k) b a j l h =
@@ -42,18 +42,20 @@ module _ (N : List Grant) where
     where
       here : CondForm (length N) prins res (getD cs i blankCond)
       here = (a .0, concl-form prins res (getD cs i blankCond .what) (b i (omega arith)) (a .1))
+
       go : (q : Bool) → eqb i j ≡ q → (i + 1 ≤ j → j < i + 1 + k → CondForm (length N) prins res (getD cs j blankCond)) → CondForm (length N) prins res (getD cs j blankCond)
       go true q f = subst (λ (n : ℕ). CondForm (length N) prins res (getD cs n blankCond)) (eqb-true i j q) here
       go false q f = let ne = eqb-false i j q in f (omega arith) (omega arith)
 
   pub row-form : length N ≤ 64 → (x : Row) → length (x .conds) ≡ 4 → ((j : ℕ) → j < x .count → ConclBelow (length N) (getD (x .conds) j blankCond .what)) →
-    ((j : ℕ) → x .count ≤ j → getD (x .conds) j blankCond ≡ blankCond) → ConclBelow (length N) (x .head) → x .count ≤ 4 → Allowed (writeRow N x) → RowForm (length N) x
+      ((j : ℕ) → x .count ≤ j → getD (x .conds) j blankCond ≡ blankCond) → ConclBelow (length N) (x .head) → x .count ≤ 4 → Allowed (writeRow N x) → RowForm (length N) x
   unfolding Allowed writeRow
   row-form small x four below blank head most a = record {
-      prins = a .0;
-      res = a .1;
-      count = most;
-      places = four;
-      used = λ j l. conds-form (x .prins) (x .res) (x .conds) 0 (x .count) (λ j' h. below j' (omega arith)) (a .3) j (omega arith) (omega arith);
-      unused = blank;
-      head = concl-form (x .prins) (x .res) (x .head) head (a .4) }
+    prins = a .0;
+    res = a .1;
+    count = most;
+    places = four;
+    used = λ j l. conds-form (x .prins) (x .res) (x .conds) 0 (x .count) (λ j' h. below j' (omega arith)) (a .3) j (omega arith) (omega arith);
+    unused = blank;
+    head = concl-form (x .prins) (x .res) (x .head) head (a .4);
+  }

@@ -5,8 +5,8 @@ use mathlib.Core.List.{List}
 use mathlib.Core.Bool.{Bool, true, false, cond}
 use native.Mathlib.Numerals.{sub-one}
 use native.Mathlib.Omega.{arith}
-use lib.ListN.{length, getD, set}
-use lib.Dec.{ltb, leb}
+use lib.ListN.{set}
+use lib.Dec.{leb}
 use borrow.Author.Tests.{leb-true}
 use Rattle.sorts.specs.declared.Cond.{Cond}
 use Rattle.rows.specs.declared.Numbering.{Numbering}

@@ -4,9 +4,9 @@ use Prim.Native.Nat.{ℕ, zero, suc}
 use mathlib.Core.Bool.{cond}
 use mathlib.Core.List.{List}
 use lib.Dec.{eqb}
-use Rattle.rows.specs.Written.{Grant, Conds, Concl, Right, grant, none, also, property, perm, issue, issueAny, run, export}
+use Rattle.rows.specs.Written.{Grant, Conds, Concl, grant, none, also, property, perm, issue, issueAny, run, export}
 use Rattle.reader.specs.declared.bytes.Scope.{Scope}
-use Rattle.reader.specs.Bytes.{Outcome, got, refused, andThen, Head, upto, principal, pack, form, head}
+use Rattle.reader.specs.Bytes.{Outcome, got, refused, andThen, upto, principal, pack, form, head}
 
 -- "00: property byte 00 to 0F, then a principal."
 unfoldable pub readProperty : Scope → List ℕ → ℕ → Outcome Concl

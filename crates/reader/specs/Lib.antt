@@ -1,4 +1,5 @@
 pub mod Bytes
 pub mod Grants
 pub mod Records
+pub mod Requests
 pub mod inner

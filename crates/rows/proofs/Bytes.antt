@@ -1,8 +1,8 @@
 -- The bytes of a grant tell the grant.
-use Prim.Native.Nat.{ℕ, zero, suc}
+use Prim.Native.Nat.{ℕ}
 use mathlib.Core.List.{List, [], _∷_, _++_, append-assoc, append-nil}
 use mathlib.Core.Bool.{Bool, true, false, _&&_}
-use mathlib.Core.Path.{_≡_, refl, sym, ap, _∙_}
+use mathlib.Core.Path.{_≡_, refl, sym, _∙_}
 use native.Mathlib.Omega.{arith}
 use lib.Dec.{eqb}
 use borrow.Author.Tests.{eqb-true, eq-eqb}
@@ -24,6 +24,7 @@ right-kind (export n) e = omega arith
 -- Where grants with other bytes after them are the same bytes, the grants are the same and so is what follows.
 mutual
   unfolding written
+
   free : (g h : Grant) (x y : List ℕ) → written g ++ x ≡ written h ++ y → (g ≡ h) × (x ≡ y)
   free (grant v r cs c) (grant v' r' cs' c') x y e =
       let e1 = tl (tl (tl e)) in

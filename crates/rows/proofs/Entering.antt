@@ -10,7 +10,7 @@ use lib.Seq.{getD-append-seam, getD-set-same, getD-set-other}
 use lib.Dec.{eqb, ltb}
 use borrow.Author.Tests.{eqb-true, eqb-false, ltb-true, ltb-false, lt-ltb, le-ltb}
 use Rattle.sorts.specs.declared.Row.{Row}
-use Rattle.sorts.specs.Blank.{blankRow, noRow}
+use Rattle.sorts.specs.Blank.{noRow}
 use Rattle.rows.specs.declared.Numbering.{Numbering}
 use Rattle.rows.specs.declared.Entered.{Entered}
 use Rattle.rows.specs.inner.Lookup.{sameRow, findFrom, findRow, entered}
@@ -20,7 +20,7 @@ use Rattle.rows.specs.Form.{noGrant, writeRow, depth, RowForm}
 use Rattle.rows.proofs.Bytes.{no-true}
 use Rattle.rows.proofs.Place.{place-at, place-lt}
 use Rattle.rows.proofs.RowSame.{row-eq, row-refl}
-use Rattle.rows.proofs.Rows.{RowBelow, form-below, below-up, row-ext, row-inj}
+use Rattle.rows.proofs.Rows.{RowBelow, form-below, row-ext, row-inj}
 use Rattle.rows.proofs.Shown.{Shown, length-more, distinct-more, shown-below}
 
 -- looking up
@@ -38,8 +38,8 @@ from-cases rows x i zero = inr (omega arith, λ j l h. absurd (omega arith))
 from-cases rows x i (suc n) = go (sameRow (getD rows i noRow) x) refl (from-cases rows x (i + 1) n)
   where
     go : (q : Bool) → sameRow (getD rows i noRow) x ≡ q → Found rows x (i + 1) (i + 1 + n) (findFrom rows x (i + 1) n) ⊎ ((findFrom rows x (i + 1) n ≡ i + 1 + n) × Missing rows x (i + 1) (i + 1 + n)) →
-      Found rows x i (i + suc n) (cond (sameRow (getD rows i noRow) x) i (findFrom rows x (i + 1) n)) ⊎
-      ((cond (sameRow (getD rows i noRow) x) i (findFrom rows x (i + 1) n) ≡ i + suc n) × Missing rows x i (i + suc n))
+        Found rows x i (i + suc n) (cond (sameRow (getD rows i noRow) x) i (findFrom rows x (i + 1) n)) ⊎
+        ((cond (sameRow (getD rows i noRow) x) i (findFrom rows x (i + 1) n) ≡ i + suc n) × Missing rows x i (i + suc n))
     go true q f = inl (rw q (record { low = omega arith; high = omega arith; there = q }))
     go false q (inl f) = let l1 = f .low in let l2 = f .high in inl (rw q (record { low = omega arith; high = omega arith; there = f .there }))
     go false q (inr f) = inr (rw q (f .0 ∙ omega arith), λ j l h. at j l h (eqb i j) refl)
@@ -53,7 +53,7 @@ unfolding findRow Missing
 find-cases rows x n = go (ltb 0 n) refl (from-cases rows x 0 (n - 0))
   where
     go : (q : Bool) → ltb 0 n ≡ q → Found rows x 0 (0 + (n - 0)) (findFrom rows x 0 (n - 0)) ⊎ ((findFrom rows x 0 (n - 0) ≡ 0 + (n - 0)) × Missing rows x 0 (0 + (n - 0))) →
-      Found rows x 0 n (cond (ltb 0 n) (findFrom rows x 0 (n - 0)) n) ⊎ ((cond (ltb 0 n) (findFrom rows x 0 (n - 0)) n ≡ n) × Missing rows x 0 n)
+        Found rows x 0 n (cond (ltb 0 n) (findFrom rows x 0 (n - 0)) n) ⊎ ((cond (ltb 0 n) (findFrom rows x 0 (n - 0)) n ≡ n) × Missing rows x 0 n)
     go true q (inl f) = let l = f .high in inl (rw q (record { low = f .low; high = omega arith; there = f .there }))
     go true q (inr f) = inr (rw q (f .0 ∙ omega arith), λ j l h. f .1 j l (omega arith))
     go false q f = let z : n ≤ 0 = ltb-false 0 n q in inr (rw q, λ j l h. absurd (omega arith))
@@ -97,7 +97,7 @@ module _ (t : Numbering) (N : List Grant) (x : Row) (room : t .full ≡ false) (
       let cnt = R .counted in
       let lt : i < t .count = omega arith in
       let q : getD (t .rows) i noRow ≡ x =
-            row-inj N small (R .distinct) (getD (t .rows) i noRow) x (shown-below R i lt) B (sym (R .written i lt) ∙ e) in
+      row-inj N small (R .distinct) (getD (t .rows) i noRow) x (shown-below R i lt) B (sym (R .written i lt) ∙ e) in
       no-true (sym (miss i (omega arith) lt) ∙ ap (λ (y : Row). sameRow y x) q ∙ row-refl x)
 
   not-has : ((i : ℕ) → i < length N → getD N i noGrant ≡ writeRow N x → ⊥) → has (writeRow N x) N ≡ false
@@ -118,22 +118,31 @@ module _ (t : Numbering) (N : List Grant) (x : Row) (room : t .full ≡ false) (
     where
       g : Grant
       g = writeRow N x
+
       N' : List Grant
       N' = N ++ (g ∷ [])
+
       cnt : t .count ≡ length N
       cnt = R .counted
+
       len : length N' ≡ length N + 1
       len = length-more N g
+
       size : length (t .rows) ≡ 64
       size = R .places
+
       rows-old : (i : ℕ) → (i ≡ t .count → ⊥) → getD (set (t .rows) (t .count) x) i noRow ≡ getD (t .rows) i noRow
       rows-old i h = getD-set-other (t .rows) (t .count) i x noRow h
+
       rows-new : getD (set (t .rows) (t .count) x) (t .count) noRow ≡ x
       rows-new = getD-set-same (t .rows) (t .count) x noRow (omega arith)
+
       old-at : (i : ℕ) → i < length N → getD N' i noGrant ≡ getD N i noGrant
       old-at i h = List·getD-append N (g ∷ []) noGrant i h
+
       new-at : getD N' (t .count) noGrant ≡ g
       new-at = ap (λ (n : ℕ). getD N' n noGrant) cnt ∙ getD-append-seam N g [] noGrant
+
       -- what holds of the rows before the new one, and of the new one, holds of all
       each : (P : ℕ → Type 0) → ((i : ℕ) → i < t .count → P i) → P (t .count) → (i : ℕ) → i < t .count + 1 → P i
       each P old last i h = go (ltb i (t .count)) refl
@@ -141,19 +150,23 @@ module _ (t : Numbering) (N : List Grant) (x : Row) (room : t .full ≡ false) (
           go : (b : Bool) → ltb i (t .count) ≡ b → P i
           go true q = old i (ltb-true _ _ q)
           go false q = let l = ltb-false i (t .count) q in let e : i ≡ t .count = omega arith in subst P (sym e) last
+
       used' : (i : ℕ) → i < t .count + 1 → RowForm i (getD (set (t .rows) (t .count) x) i noRow)
       used' = each (λ i. RowForm i (getD (set (t .rows) (t .count) x) i noRow))
-        (λ i l. subst (RowForm i) (sym (rows-old i (λ (q : i ≡ t .count). omega arith))) (R .used i l))
-        (subst (RowForm (t .count)) (sym rows-new) (subst (λ (n : ℕ). RowForm n x) (sym cnt) F))
+          (λ i l. subst (RowForm i) (sym (rows-old i (λ (q : i ≡ t .count). omega arith))) (R .used i l))
+          (subst (RowForm (t .count)) (sym rows-new) (subst (λ (n : ℕ). RowForm n x) (sym cnt) F))
+
       written' : (i : ℕ) → i < t .count + 1 → getD N' i noGrant ≡ writeRow N' (getD (set (t .rows) (t .count) x) i noRow)
       written' = each (λ i. getD N' i noGrant ≡ writeRow N' (getD (set (t .rows) (t .count) x) i noRow))
-        (λ i l. old-at i (omega arith) ∙ R .written i l ∙ sym (row-ext N (g ∷ []) small (getD (t .rows) i noRow) (shown-below R i l)) ∙
+          (λ i l. old-at i (omega arith) ∙ R .written i l ∙ sym (row-ext N (g ∷ []) small (getD (t .rows) i noRow) (shown-below R i l)) ∙
           ap (writeRow N') (sym (rows-old i (λ (q : i ≡ t .count). omega arith))))
-        (new-at ∙ sym (row-ext N (g ∷ []) small x B) ∙ ap (writeRow N') (sym rows-new))
+          (new-at ∙ sym (row-ext N (g ∷ []) small x B) ∙ ap (writeRow N') (sym rows-new))
+
       depths' : (i : ℕ) → i < t .count + 1 → depth (getD N' i noGrant) ≤ 4
       depths' = each (λ i. depth (getD N' i noGrant) ≤ 4)
-        (λ i l. subst (λ (w : Grant). depth w ≤ 4) (sym (old-at i (omega arith))) (R .depths i l))
-        (subst (λ (w : Grant). depth w ≤ 4) (sym new-at) D)
+          (λ i l. subst (λ (w : Grant). depth w ≤ 4) (sym (old-at i (omega arith))) (R .depths i l))
+          (subst (λ (w : Grant). depth w ≤ 4) (sym new-at) D)
+
       all : Shown (more .rows) (more .count) N'
       all = record {
         places = length-set (t .rows) (t .count) x ∙ size;
@@ -163,11 +176,14 @@ module _ (t : Numbering) (N : List Grant) (x : Row) (room : t .full ≡ false) (
         unused = λ i l h. rows-old i (λ (q : i ≡ t .count). omega arith) ∙ R .unused i (omega arith) h;
         written = written';
         distinct = distinct-more N g (R .distinct) new;
-        depths = depths' }
+        depths = depths';
+      }
+
       rw-put : has g N ≡ false → Put N g (record { table = more; no = record { 0 = t .count } })
       rw-put e = record {
         good = rw e (tied room all);
-        names = λ f. rw e (omega (arith, len, cnt), new-at) }
+        names = λ f. rw e (omega (arith, len, cnt), new-at);
+      }
 
   put-over : ((i : ℕ) → i < length N → getD N i noGrant ≡ writeRow N x → ⊥) → 64 ≤ t .count → Put N (writeRow N x) (record { table = record { rows = t .rows; count = t .count; full = true }; no = record { 0 = 0 } })
   unfolding add Names
@@ -187,7 +203,7 @@ module _ (t : Numbering) (N : List Grant) (x : Row) (room : t .full ≡ false) (
       go (inr f) = rw (f .0, le-ltb (t .count) (t .count) (omega arith)) (room-or (ltb (t .count) 64) refl (put-new (f .1)))
         where
           room-or : (b : Bool) → ltb (t .count) 64 ≡ b → ((i : ℕ) → i < length N → getD N i noGrant ≡ writeRow N x → ⊥) →
-            Put N (writeRow N x) (cond (ltb (t .count) 64) (record { table = record { rows = set (t .rows) (t .count) x; count = t .count + 1; full = t .full }; no = record { 0 = t .count } })
+              Put N (writeRow N x) (cond (ltb (t .count) 64) (record { table = record { rows = set (t .rows) (t .count) x; count = t .count + 1; full = t .full }; no = record { 0 = t .count } })
               (record { table = record { rows = t .rows; count = t .count; full = true }; no = record { 0 = 0 } }))
           room-or true q new = rw q (put-more new (ltb-true _ _ q))
           room-or false q new = rw q (put-over new (ltb-false _ _ q))

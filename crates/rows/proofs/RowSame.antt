@@ -5,7 +5,6 @@ use mathlib.Core.Path.{_≡_, refl, sym, ap, _∙_}
 use native.Mathlib.Omega.{arith}
 use lib.ListN.{length, getD}
 use lib.Seq.{ext-getD}
-use lib.Dec.{eqb}
 use borrow.Author.Tests.{eqb-true, eq-eqb}
 use Rattle.sorts.specs.declared.Res.{Res}
 use Rattle.sorts.specs.declared.Res.the-variants.{Issue, Run, Export}
@@ -97,13 +96,13 @@ row-eq a b la lb e =
     let e6 = both-2 _ _ e5 in
     let e7 = both-2 _ _ e6 in
     let cs : a .conds ≡ b .conds =
-          ext-getD blankCond (a .conds) (b .conds) (la ∙ sym lb)
-          (λ i h. at4 (λ (j : ℕ). getD (a .conds) j blankCond ≡ getD (b .conds) j blankCond)
-            (cond-eq _ _ (both-1 _ _ e3)) (cond-eq _ _ (both-1 _ _ e4)) (cond-eq _ _ (both-1 _ _ e5)) (cond-eq _ _ (both-1 _ _ e6)) i (omega arith)) in
+    ext-getD blankCond (a .conds) (b .conds) (la ∙ sym lb)
+    (λ i h. at4 (λ (j : ℕ). getD (a .conds) j blankCond ≡ getD (b .conds) j blankCond)
+    (cond-eq _ _ (both-1 _ _ e3)) (cond-eq _ _ (both-1 _ _ e4)) (cond-eq _ _ (both-1 _ _ e5)) (cond-eq _ _ (both-1 _ _ e6)) i (omega arith)) in
     row-path a b (eqb-true (a .prins) (b .prins) (both-1 _ _ e)) (eqb-true (a .res) (b .res) (both-1 _ _ e1)) (eqb-true (a .count) (b .count) (both-1 _ _ e2)) cs (concl-eq (a .head) (b .head) e7)
 
 pub row-refl : (a : Row) → sameRow a a ≡ true
 unfolding sameRow
 row-refl a =
     both-i _ _ (eq-eqb (a .prins) _ refl) (both-i _ _ (eq-eqb (a .res) _ refl) (both-i _ _ (eq-eqb (a .count) _ refl)
-      (both-i _ _ (cond-refl _) (both-i _ _ (cond-refl _) (both-i _ _ (cond-refl _) (both-i _ _ (cond-refl _) (concl-refl _)))))))
+    (both-i _ _ (cond-refl _) (both-i _ _ (cond-refl _) (both-i _ _ (cond-refl _) (both-i _ _ (cond-refl _) (concl-refl _)))))))

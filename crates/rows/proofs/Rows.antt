@@ -1,13 +1,12 @@
 -- A table and the list N that its rows are, written out.
 use Prim.Native.Nat.{ℕ, zero, suc, _+_, _<_, _≤_}
-use mathlib.Core.List.{List, [], _∷_, _++_}
-use mathlib.Core.Bool.{Bool, true, false, cond}
+use mathlib.Core.List.{List, _++_}
+use mathlib.Core.Bool.{Bool, true, false}
 use mathlib.Core.Path.{_≡_, refl, sym, ap, subst, _∙_}
 use mathlib.Core.Logic.{_⊎_, inl, inr, ⊎-elim}
 use native.Mathlib.Omega.{arith}
-use native.Mathlib.Nat.{not-suc-le-zero}
-use lib.ListN.{length, getD, take, drop, length-append, List·getD-append}
-use lib.Seq.{ext-getD, getD-append-seam, take-suc, getD-take, length-take-le, take-all}
+use lib.ListN.{length, getD, List·getD-append}
+use lib.Seq.{ext-getD}
 use lib.Dec.{eqb, ltb}
 use borrow.Author.Tests.{eqb-true, eqb-false, eq-eqb, ne-eqb, ltb-true, ltb-false}
 use Rattle.sorts.specs.declared.Res as r
@@ -16,11 +15,10 @@ use Rattle.sorts.specs.declared.Concl as rc
 use Rattle.sorts.specs.declared.Concl.the-variants.{Property, Perm}
 use Rattle.sorts.specs.declared.Cond.{Cond}
 use Rattle.sorts.specs.declared.Row.{Row}
-use Rattle.sorts.specs.Blank.{blankCond, blankRow, noRow}
+use Rattle.sorts.specs.Blank.{blankCond}
 use Rattle.sorts.proofs.Marks.{prin-is, grant-is, pack-is}
-use Rattle.rows.specs.declared.Table.{Table}
-use Rattle.rows.specs.Written.{Grant, Conds, Concl, Right, grant, none, also, property, perm, issue, issueAny, run, export}
-use Rattle.rows.specs.Form.{noGrant, writeRes, writeConcl, writeConds, writeRow, rowsOut, depth, PrinForm, PackForm, ResForm, ConclForm, CondForm, RowForm, TableForm}
+use Rattle.rows.specs.Written.{Grant, Concl, Right, grant, also, perm, issue, issueAny, run, export}
+use Rattle.rows.specs.Form.{noGrant, writeRes, writeConcl, writeConds, writeRow, ConclForm, RowForm}
 use Rattle.rows.proofs.Place.{Distinct}
 use Rattle.rows.proofs.RowSame.{row-path}
 
@@ -51,10 +49,11 @@ concl-below n prins res (Perm p (Export k)) f = tt
 
 pub form-below : (n : ℕ) (x : Row) → RowForm n x → RowBelow n x
 form-below n x f = record {
-    places = f .places;
-    used = λ j l. concl-below n (x .prins) (x .res) (getD (x .conds) j blankCond .what) (f .used j l .1);
-    unused = f .unused;
-    head = concl-below n (x .prins) (x .res) (x .head) (f .head) }
+  places = f .places;
+  used = λ j l. concl-below n (x .prins) (x .res) (getD (x .conds) j blankCond .what) (f .used j l .1);
+  unused = f .unused;
+  head = concl-below n (x .prins) (x .res) (x .head) (f .head);
+}
 
 pub concl-up : (n m : ℕ) (x : rc.Concl) → n ≤ m → ConclBelow n x → ConclBelow m x
 concl-up n m (Property k p) l h = tt
@@ -67,7 +66,7 @@ below-up n m x l b = record { places = b .places; used = λ j h. concl-up n m (g
 
 -- an issue right written out, by what its number is
 
-write-any : (N : List Grant) (g : ℕ) → g ≡ 128 → writeRes N (Issue (record { 0 = g })) ≡ issueAny
+pub write-any : (N : List Grant) (g : ℕ) → g ≡ 128 → writeRes N (Issue (record { 0 = g })) ≡ issueAny
 write-any N g e = rw (eq-eqb g 128 e)
 
 pub write-issue : (N : List Grant) (g : ℕ) → g < 128 → writeRes N (Issue (record { 0 = g })) ≡ issue (getD N g noGrant)
@@ -161,23 +160,25 @@ module _ (N : List Grant) (small : length N ≤ 64) (dis : Distinct N) where
       ap suc (conds-many cs ds (i + 1) k l d)
 
   conds-inj : (cs ds : List Cond) (i k : ℕ) →
-    ((j : ℕ) → j < i + k → ConclBelow (length N) (getD cs j blankCond .what)) →
-    ((j : ℕ) → j < i + k → ConclBelow (length N) (getD ds j blankCond .what)) →
-    writeConds N cs i k ≡ writeConds N ds i k → (j : ℕ) → i ≤ j → j < i + k → getD cs j blankCond ≡ getD ds j blankCond
+      ((j : ℕ) → j < i + k → ConclBelow (length N) (getD cs j blankCond .what)) →
+      ((j : ℕ) → j < i + k → ConclBelow (length N) (getD ds j blankCond .what)) →
+      writeConds N cs i k ≡ writeConds N ds i k → (j : ℕ) → i ≤ j → j < i + k → getD cs j blankCond ≡ getD ds j blankCond
   unfolding writeConds
   conds-inj cs ds i zero a b e j l h = absurd (omega arith)
   conds-inj cs ds i (suc k) a b e j l h =
       go (eqb i j) refl
-        (conds-inj cs ds (i + 1) k (λ j' h'. a j' (omega arith)) (λ j' h'. b j' (omega arith)) rest j)
+      (conds-inj cs ds (i + 1) k (λ j' h'. a j' (omega arith)) (λ j' h'. b j' (omega arith)) rest j)
     where
       rest : writeConds N cs (i + 1) k ≡ writeConds N ds (i + 1) k
       rest = cc
+
       here : getD cs i blankCond ≡ getD ds i blankCond
       here =
           let w : getD cs i blankCond .who .0 ≡ getD ds i blankCond .who .0 = cc in
           let t : writeConcl N (getD cs i blankCond .what) ≡ writeConcl N (getD ds i blankCond .what) = cc in
           let c : getD cs i blankCond .what ≡ getD ds i blankCond .what = concl-inj _ _ (a i (omega arith)) (b i (omega arith)) t in
           λ n. record { who = prin-is _ _ w n; what = c n }
+
       go : (q : Bool) → eqb i j ≡ q → (i + 1 ≤ j → j < i + 1 + k → getD cs j blankCond ≡ getD ds j blankCond) → getD cs j blankCond ≡ getD ds j blankCond
       go true q f = subst (λ (n : ℕ). getD cs n blankCond ≡ getD ds n blankCond) (eqb-true i j q) here
       go false q f = let ne = eqb-false i j q in f (omega arith) (omega arith)
@@ -192,10 +193,10 @@ module _ (N : List Grant) (small : length N ≤ 64) (dis : Distinct N) where
       let w : writeConcl N (x .head) ≡ writeConcl N (y .head) = cc in
       let t' : writeConds N (x .conds) 0 (x .count) ≡ writeConds N (y .conds) 0 (x .count) = t ∙ ap (writeConds N (y .conds) 0) (sym n) in
       row-path x y v s n (ext-getD blankCond (x .conds) (y .conds) (a .places ∙ sym (b .places)) (λ j h. at j (ltb j (x .count)) refl n t'))
-        (concl-inj (x .head) (y .head) (a .head) (b .head) w)
+      (concl-inj (x .head) (y .head) (a .head) (b .head) w)
     where
       at : (j : ℕ) (q : Bool) → ltb j (x .count) ≡ q → x .count ≡ y .count → writeConds N (x .conds) 0 (x .count) ≡ writeConds N (y .conds) 0 (x .count) →
-        getD (x .conds) j blankCond ≡ getD (y .conds) j blankCond
+          getD (x .conds) j blankCond ≡ getD (y .conds) j blankCond
       at j true q n t =
           let l : j < x .count = ltb-true j (x .count) q in
           conds-inj (x .conds) (y .conds) 0 (x .count) (λ i h. a .used i (omega arith)) (λ i h. b .used i (omega arith)) t j (omega arith) (omega arith)

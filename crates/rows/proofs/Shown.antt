@@ -1,12 +1,12 @@
 -- The rows below a count, written out, are N; and a table in form is one whose rows are so.
 use Prim.Native.Nat.{ℕ, zero, suc, _+_, _<_, _≤_}
-use mathlib.Core.List.{List, [], _∷_, _++_, append-assoc}
+use mathlib.Core.List.{List, [], _∷_, _++_}
 use mathlib.Core.Bool.{Bool, true, false}
 use mathlib.Core.Path.{_≡_, refl, sym, ap, subst, _∙_}
 use native.Mathlib.Omega.{arith}
 use native.Mathlib.Nat.{not-suc-le-zero}
-use lib.ListN.{length, getD, take, drop, length-append, length-take, replicate, getD-replicate, length-replicate, List·getD-append}
-use lib.Seq.{getD-append-seam, take-suc, getD-take, length-take-le, take-length, take-add}
+use lib.ListN.{length, getD, take, drop, length-append, replicate, getD-replicate, length-replicate, List·getD-append}
+use lib.Seq.{getD-append-seam, take-suc, length-take-le, take-length}
 use lib.Dec.{ltb}
 use borrow.Author.Tests.{ltb-true, ltb-false}
 use Rattle.sorts.specs.declared.Row.{Row}
@@ -36,10 +36,13 @@ distinct-more N g dis new i j hi hj e = go (ltb i (length N)) refl (ltb j (lengt
   where
     old : (k : ℕ) → k < length N → getD (N ++ (g ∷ [])) k noGrant ≡ getD N k noGrant
     old k h = List·getD-append N (g ∷ []) noGrant k h
+
     last : (k : ℕ) → k ≡ length N → getD (N ++ (g ∷ [])) k noGrant ≡ g
     last k q = ap (λ (n : ℕ). getD (N ++ (g ∷ [])) n noGrant) q ∙ getD-append-seam N g [] noGrant
+
     is-last : (k : ℕ) → k < length (N ++ (g ∷ [])) → length N ≤ k → k ≡ length N
     is-last k h l = let m = length-more N g in omega arith
+
     go : (p : Bool) → ltb i (length N) ≡ p → (q : Bool) → ltb j (length N) ≡ q → i ≡ j
     go true p true q =
         let a = ltb-true i (length N) p in let b = ltb-true j (length N) q in
@@ -76,8 +79,10 @@ module _ (t : Table) (f : TableForm t) where
     where
       g : Grant
       g = writeRow (out k) (rowAt k)
+
       small : length (out k) ≤ 64
       small = omega (arith, out-length (t .rows) k, f .count)
+
       go : (b : Bool) → ltb i k ≡ b → (i < k → getD (out k) i noGrant ≡ writeRow (out k) (rowAt i)) → getD (out k ++ (g ∷ [])) i noGrant ≡ writeRow (out k ++ (g ∷ [])) (rowAt i)
       go true q ih =
           let a = ltb-true i k q in
@@ -109,14 +114,15 @@ module _ (t : Table) (f : TableForm t) where
   -- a table in form shows its rows written out
   pub form-shown : Shown (t .rows) (t .count) (rowsOut (t .rows) (t .count))
   form-shown = record {
-      places = f .places;
-      counted = sym (out-length (t .rows) (t .count));
-      small = f .count;
-      used = f .used;
-      unused = f .unused;
-      written = out-at (t .count) (omega arith);
-      distinct = out-distinct (t .count) (omega arith);
-      depths = f .depths }
+    places = f .places;
+    counted = sym (out-length (t .rows) (t .count));
+    small = f .count;
+    used = f .used;
+    unused = f .unused;
+    written = out-at (t .count) (omega arith);
+    distinct = out-distinct (t .count) (omega arith);
+    depths = f .depths;
+  }
 
 -- and what rows show is their writing out
 
@@ -135,7 +141,7 @@ module _ {rows : List Row} {count : ℕ} {N : List Grant} (R : Shown rows count 
       let b : RowBelow (length (take k N)) (getD rows k noRow) = below-up k (length (take k N)) (getD rows k noRow) (omega arith) (form-below k (getD rows k noRow) (R .used k (omega arith))) in
       let m = R .small in
       let w : writeRow (take k N) (getD rows k noRow) ≡ getD N k noGrant =
-            sym (row-ext (take k N) (drop k N) (omega arith) (getD rows k noRow) b) ∙ ap (λ (M : List Grant). writeRow M (getD rows k noRow)) (sym split) ∙ sym (R .written k (omega arith)) in
+      sym (row-ext (take k N) (drop k N) (omega arith) (getD rows k noRow) b) ∙ ap (λ (M : List Grant). writeRow M (getD rows k noRow)) (sym split) ∙ sym (R .written k (omega arith)) in
       ap (λ (M : List Grant). M ++ (writeRow M (getD rows k noRow) ∷ [])) (out-take k (omega arith)) ∙
       ap (λ (g : Grant). take k N ++ (g ∷ [])) w ∙ sym (take-suc N k noGrant l)
     where
@@ -149,23 +155,25 @@ module _ {rows : List Row} {count : ℕ} {N : List Grant} (R : Shown rows count 
 
   pub shown-form : TableForm (record { rows = rows; count = count })
   shown-form = record {
-      places = R .places;
-      count = R .small;
-      used = R .used;
-      unused = R .unused;
-      distinct = λ i j hi hj e.
-          let c = R .counted in
-          R .distinct i j (omega arith) (omega arith) (R .written i hi ∙ ap (writeRow N) e ∙ sym (R .written j hj));
-      depths = λ i h. subst (λ (M : List Grant). depth (getD M i noGrant) ≤ 4) (sym shown-out) (R .depths i h) }
+    places = R .places;
+    count = R .small;
+    used = R .used;
+    unused = R .unused;
+    distinct = λ i j hi hj e.
+        let c = R .counted in
+        R .distinct i j (omega arith) (omega arith) (R .written i hi ∙ ap (writeRow N) e ∙ sym (R .written j hj));
+    depths = λ i h. subst (λ (M : List Grant). depth (getD M i noGrant) ≤ 4) (sym shown-out) (R .depths i h);
+  }
 
 -- The blank table is in form, and shows nothing.
 pub blank-shown : Shown (replicate 64 blankRow) 0 []
 blank-shown = record {
-    places = length-replicate 64 blankRow;
-    counted = refl;
-    small = omega arith;
-    used = λ i l. absurd (not-suc-le-zero l);
-    unused = λ i l h. getD-replicate 64 i blankRow noRow h;
-    written = λ i l. absurd (not-suc-le-zero l);
-    distinct = λ i j l. absurd (not-suc-le-zero l);
-    depths = λ i l. absurd (not-suc-le-zero l) }
+  places = length-replicate 64 blankRow;
+  counted = refl;
+  small = omega arith;
+  used = λ i l. absurd (not-suc-le-zero l);
+  unused = λ i l h. getD-replicate 64 i blankRow noRow h;
+  written = λ i l. absurd (not-suc-le-zero l);
+  distinct = λ i j l. absurd (not-suc-le-zero l);
+  depths = λ i l. absurd (not-suc-le-zero l);
+}

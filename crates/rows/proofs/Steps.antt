@@ -1,12 +1,12 @@
 -- The steps of a search through the rows.
 use Prim.Native.Nat.{ℕ, zero, suc, _+_, _-_, _<_, _≤_}
-use mathlib.Core.Path.{_≡_, refl, sym, subst, ap, _∙_}
+use mathlib.Core.Path.{_≡_, refl, ap, _∙_}
 use mathlib.Core.List.{List}
 use mathlib.Core.Bool.{Bool, true, false, cond}
 use lib.ListN.{getD}
 use lib.Dec.{ltb}
 use native.Mathlib.Omega.{arith}
-use borrow.Author.Tests.{le-ltb, lt-ltb, ltb-false, ltb-true}
+use borrow.Author.Tests.{le-ltb, lt-ltb, ltb-false}
 use Rattle.sorts.specs.declared.Row.{Row}
 use Rattle.rows.specs.inner.Lookup.{findRow, findFrom, sameRow}
 use Rattle.sorts.specs.Blank.{noRow}

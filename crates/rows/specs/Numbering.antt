@@ -1,7 +1,7 @@
 -- Document 01: "A new grant gets the lowest number not given, inner grants before the one that holds them, left to right. A
 -- number is kept for the life of the book." N is the list of the grants numbered, in order; a grant's number is its place.
 use Prim.Native.Nat.{ℕ, suc}
-use mathlib.Core.Bool.{Bool, true, false, cond}
+use mathlib.Core.Bool.{Bool, cond}
 use mathlib.Core.List.{List, [], _∷_, _++_}
 use lib.ListN.{length}
 use lib.Dec.{ltb}

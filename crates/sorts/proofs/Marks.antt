@@ -1,6 +1,6 @@
 -- Each number is in range, and two closed conclusions, or two closed statements, with the same number are the same.
 use mathlib.Core.Path.{_≡_, ap}
-use Prim.Native.Nat.{ℕ, _+_, _*_, _<_}
+use Prim.Native.Nat.{_<_}
 use native.Mathlib.Omega.{arith}
 use Rattle.sorts.specs.declared.Prin.{Prin}
 use Rattle.sorts.specs.declared.GrantNo.{GrantNo}
@@ -9,7 +9,7 @@ use Rattle.sorts.specs.declared.Res.{Res}
 use Rattle.sorts.specs.declared.Res.the-variants.{Issue, Run, Export}
 use Rattle.sorts.specs.declared.Concl.{Concl}
 use Rattle.sorts.specs.declared.Concl.the-variants.{Property, Perm}
-use Rattle.sorts.specs.Numbers.{ClosedRes, ClosedConcl, ClosedStatement, Statement, truth, said, slotOf, numberOf, markOf, saidMark, conclusions, allMarks}
+use Rattle.sorts.specs.Numbers.{ClosedRes, ClosedConcl, ClosedStatement, Statement, truth, said, slotOf, numberOf, markOf, conclusions, allMarks}
 
 pub slot-lt : (r : Res) → ClosedRes r → slotOf r < 144
 slot-lt (Issue g) h = omega arith

@@ -1,9 +1,7 @@
 -- Document 01, "Sorts and statement numbers".
-use mathlib.Core.Bool.{Bool, true, false}
+use mathlib.Core.Bool.{true}
 use Prim.Native.Nat.{ℕ, _+_, _*_, _<_}
 use Rattle.sorts.specs.declared.Prin.{Prin}
-use Rattle.sorts.specs.declared.GrantNo.{GrantNo}
-use Rattle.sorts.specs.declared.Pack.{Pack}
 use Rattle.sorts.specs.declared.Res.{Res}
 use Rattle.sorts.specs.declared.Res.the-variants.{Issue, Run, Export}
 use Rattle.sorts.specs.declared.Concl.{Concl}

@@ -15,7 +15,7 @@ use Rattle.rows.specs.declared.Numbering.{Numbering}
 use Rattle.rows.specs.declared.Entered.{Entered}
 use Rattle.rows.specs.inner.Lookup.{entered}
 use Rattle.reader.specs.declared.bytes.Scope.{Scope}
-use Rattle.reader.specs.Bytes.{Outcome, got, refused, Head, upto, principal, pack, form, head}
+use Rattle.reader.specs.Bytes.{Outcome, got, refused, upto, principal, pack, form, head}
 use Rattle.reader.specs.declared.grants.GrantOut.{GrantOut}
 use Rattle.reader.specs.declared.grants.GrantOut.the-variants as grant
 use Rattle.reader.specs.declared.grants.GrantReading.{GrantReading}

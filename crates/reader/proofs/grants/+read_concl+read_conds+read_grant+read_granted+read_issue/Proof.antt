@@ -32,12 +32,8 @@ use Rattle.reader.proofs.grants.read_packed.Reads as read-packed-reads
 use Rattle.reader.proofs.grants.read_property.Reads as read-property-reads
 use Rattle.rows.proofs.enter.Reads as enter-reads
 use Rattle.sorts.proofs.Cond.blank.Reads as blank-reads
-use Rattle.reader.proofs.grants.+read_concl+read_conds+read_grant+read_granted+read_issue.{
-  statement,
-}
-use Rattle.reader.proofs.grants.+read_concl+read_conds+read_grant+read_granted+read_issue.Tie.{
-  close,
-}
+use Rattle.reader.proofs.grants.+read_concl+read_conds+read_grant+read_granted+read_issue.{statement}
+use Rattle.reader.proofs.grants.+read_concl+read_conds+read_grant+read_granted+read_issue.Tie.{close}
 
 abbrev μ-read-concl : Measures 1 read-concl-kinds.ps ℕ
 μ-read-concl κs a = 300 * a .1 .1 .0 + 2

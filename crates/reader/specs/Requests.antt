@@ -1,0 +1,69 @@
+-- What the reader answers of a record, and how it numbers the record's grants. Document 01: "TG, LI and QU give numbers to
+-- new grants. ST and WD give none."
+use Prim.Native.Nat.{ℕ, _<_}
+use mathlib.Core.Path.{_≡_}
+use mathlib.Core.Bool.{Bool, true, false, cond}
+use mathlib.Core.List.{List}
+use lib.ListN.{length}
+use lib.Dec.{leb}
+use Rattle.rows.specs.declared.Table.{Table}
+use Rattle.rows.specs.Written.{Grant}
+use Rattle.rows.specs.Numbering.{place, has, number, numberConcl}
+use Rattle.rows.specs.Form.{conclOf, rowsOut, TableForm}
+use Rattle.reader.specs.declared.records.Standing.{Standing}
+use Rattle.reader.specs.declared.records.Standing.the-variants.{Trusted, Issued}
+use Rattle.reader.specs.declared.records.Request.the-variants.{Enter, Remove, Query}
+use Rattle.reader.specs.declared.records.Found.{Found}
+use Rattle.reader.specs.declared.records.Found.the-variants.{Asks, Full, Unknown, Refused}
+use Rattle.reader.specs.declared.records.Reading.{Reading}
+use Rattle.reader.specs.Bytes.{Outcome, got, refused}
+use Rattle.reader.specs.Records.{Record, TG, ST, LI, WD, QU, readRecord}
+
+-- "the grants that the record would number and those in N exceed 64": the list that they make is too long.
+abbrev pub fits : List Grant → Bool
+fits N = leb (length N) 64
+
+-- To enter g: its number is its place once it is numbered. Full becomes refusal 6.
+abbrev pub entering : Standing → List Grant → Grant → ℕ → Found
+entering by N g n = cond (fits (number g N)) (Asks (Enter by (record { 0 = place g (number g N) })) n) (Full n)
+
+-- To remove g, where it has a number. Unknown becomes refusal 7.
+abbrev pub removing : Standing → List Grant → Grant → ℕ → Found
+removing by N g n = cond (has g N) (Asks (Remove by (record { 0 = place g N })) n) (Unknown n)
+
+-- What the reader finds where the grants N are numbered.
+unfoldable pub foundOf : List Grant → Outcome Record → Found
+foundOf N (refused k) = Refused k
+foundOf N (got (TG g) n) = entering Trusted N g n
+foundOf N (got (ST g) n) = removing Trusted N g n
+foundOf N (got (LI p g) n) = entering (Issued (record { 0 = p })) N g n
+foundOf N (got (WD p g) n) = removing (Issued (record { 0 = p })) N g n
+foundOf N (got (QU c) n) = cond (fits (numberConcl c N)) (Asks (Query (conclOf (numberConcl c N) c)) n) (Full n)
+
+-- The grants numbered after it.
+unfoldable pub numberedBy : List Grant → Outcome Record → List Grant
+numberedBy N (refused k) = N
+numberedBy N (got (TG g) n) = cond (fits (number g N)) (number g N) N
+numberedBy N (got (ST g) n) = N
+numberedBy N (got (LI p g) n) = cond (fits (number g N)) (number g N) N
+numberedBy N (got (WD p g) n) = N
+numberedBy N (got (QU c) n) = cond (fits (numberConcl c N)) (numberConcl c N) N
+
+-- Whether what was found gives numbers.
+abbrev pub numbers : Found → Bool
+numbers (Asks (Enter by g) n) = true
+numbers (Asks (Remove by g) n) = false
+numbers (Asks (Query c) n) = true
+numbers (Full n) = false
+numbers (Unknown n) = false
+numbers (Refused k) = false
+
+-- THE PROMISE of the reader, over any table: a count above 64 is out of form, 9; over a table in form the answer and the
+-- rows, written out, are what the two functions say, and the table left is in form; a record that gives no numbers leaves the
+-- table as it was, in form or not.
+pub record Reads (s : List ℕ) (t : Table) (r : Reading) : Type 0 where
+  pub over : 64 < t .count → r ≡ record { table = t; found = Refused 9 }
+  pub found : TableForm t → r .found ≡ foundOf (rowsOut (t .rows) (t .count)) (readRecord s)
+  pub rows : TableForm t → rowsOut (r .table .rows) (r .table .count) ≡ numberedBy (rowsOut (t .rows) (t .count)) (readRecord s)
+  pub form : TableForm t → TableForm (r .table)
+  pub kept : numbers (r .found) ≡ false → r .table ≡ t
