@@ -31,3 +31,13 @@ pub head-no : (o : Outcome Head) (k : ℕ) → asHead o ≡ head.No k → o ≡ 
 unfolding asHead
 head-no (got h m) k e = let z : _≡_ {A = ℕ} 0 1 = cc in absurd (omega arith)
 head-no (refused j) k e = cc
+
+-- and what the definition found tells the answer
+
+pub is-byte : {o : Outcome ℕ} {b n : ℕ} → o ≡ got b n → byte.Byte b n ≡ asByte o
+unfolding asByte
+is-byte e = rw e
+
+pub is-no : {o : Outcome ℕ} {k : ℕ} → o ≡ refused k → byte.No k ≡ asByte o
+unfolding asByte
+is-no e = rw e

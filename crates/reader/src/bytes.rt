@@ -1,6 +1,9 @@
 // One byte at a time: the lists and ranges of document 01, each in one place.
+use sorts::Pack;
+use sorts::Prin;
+use sorts::Refusal;
 ghost use mathlib.Core.Path.{_≡_};
-ghost use Rattle.reader.specs.Bytes.{upto, principal, pack, form, head};
+ghost use Rattle.reader.specs.Bytes.{byteAt, declared, upto, principal, pack, form, head};
 ghost use Rattle.reader.specs.inner.Answers.{asByte, asHead};
 
 // A byte with the place after it, or the number of the refusal.
@@ -22,19 +25,41 @@ pub struct Scope {
     pub res: u8,
 }
 
+// The byte at a place.
+pub fn read_byte(s: &[u8], at: usize) -> Got
+    ensures { λ r. ⌜ r ≡ asByte (byteAt (now (s .entry)) at) ⌝ }
+{
+    if at < s.len() {
+        Got::Byte(s[at], at + 1)
+    } else {
+        Got::No(Refusal::MISSING)
+    }
+}
+
 // A byte that is at most `most`.
 pub fn read_upto(most: u8, s: &[u8], at: usize) -> Got
     ensures { λ r. ⌜ r ≡ asByte (upto most (now (s .entry)) at) ⌝ }
 {
-    if at < s.len() {
-        let b = s[at];
-        if b <= most {
-            Got::Byte(b, at + 1)
-        } else {
-            Got::No(3)
+    match read_byte(s, at) {
+        Got::No(k) => Got::No(k),
+        Got::Byte(b, n) => {
+            if b <= most {
+                Got::Byte(b, n)
+            } else {
+                Got::No(Refusal::RANGE)
+            }
         }
+    }
+}
+
+// A listed variable byte, which is good where the variable is declared.
+fn variable(is: bool, b: u8, n: usize) -> Got
+    ensures { λ r. ⌜ r ≡ asByte (declared is b n) ⌝ }
+{
+    if is {
+        Got::Byte(b, n)
     } else {
-        Got::No(1)
+        Got::No(Refusal::VARIABLE)
     }
 }
 
@@ -42,27 +67,20 @@ pub fn read_upto(most: u8, s: &[u8], at: usize) -> Got
 pub fn read_prin(v: Scope, s: &[u8], at: usize) -> Got
     ensures { λ r. ⌜ r ≡ asByte (principal v (now (s .entry)) at) ⌝ }
 {
-    if at < s.len() {
-        let b = s[at];
-        if b < 16 {
-            Got::Byte(b, at + 1)
-        } else if b == 128 {
-            if 0 < v.prins {
-                Got::Byte(b, at + 1)
-            } else {
-                Got::No(4)
+    match read_byte(s, at) {
+        Got::No(k) => Got::No(k),
+        Got::Byte(b, n) => {
+            if b < Prin::COUNT {
+                return Got::Byte(b, n);
             }
-        } else if b == 129 {
-            if 1 < v.prins {
-                Got::Byte(b, at + 1)
-            } else {
-                Got::No(4)
+            if b == Prin::FIRST {
+                return variable(0 < v.prins, b, n);
             }
-        } else {
-            Got::No(3)
+            if b == Prin::SECOND {
+                return variable(1 < v.prins, b, n);
+            }
+            Got::No(Refusal::RANGE)
         }
-    } else {
-        Got::No(1)
     }
 }
 
@@ -70,21 +88,17 @@ pub fn read_prin(v: Scope, s: &[u8], at: usize) -> Got
 pub fn read_pack(v: Scope, s: &[u8], at: usize) -> Got
     ensures { λ r. ⌜ r ≡ asByte (pack v (now (s .entry)) at) ⌝ }
 {
-    if at < s.len() {
-        let b = s[at];
-        if b < 32 {
-            Got::Byte(b, at + 1)
-        } else if b == 128 {
-            if v.res == 2 {
-                Got::Byte(b, at + 1)
-            } else {
-                Got::No(4)
+    match read_byte(s, at) {
+        Got::No(k) => Got::No(k),
+        Got::Byte(b, n) => {
+            if b < Pack::COUNT {
+                return Got::Byte(b, n);
             }
-        } else {
-            Got::No(3)
+            if b == Pack::VAR {
+                return variable(v.res == 2, b, n);
+            }
+            Got::No(Refusal::RANGE)
         }
-    } else {
-        Got::No(1)
     }
 }
 
@@ -92,21 +106,17 @@ pub fn read_pack(v: Scope, s: &[u8], at: usize) -> Got
 pub fn read_form(v: Scope, s: &[u8], at: usize) -> Got
     ensures { λ r. ⌜ r ≡ asByte (form v (now (s .entry)) at) ⌝ }
 {
-    if at < s.len() {
-        let b = s[at];
-        if b == 0 {
-            Got::Byte(b, at + 1)
-        } else if b == 1 {
-            if v.res == 1 {
-                Got::Byte(b, at + 1)
-            } else {
-                Got::No(4)
+    match read_byte(s, at) {
+        Got::No(k) => Got::No(k),
+        Got::Byte(b, n) => {
+            if b == 0 {
+                return Got::Byte(b, n);
             }
-        } else {
-            Got::No(3)
+            if b == 1 {
+                return variable(v.res == 1, b, n);
+            }
+            Got::No(Refusal::RANGE)
         }
-    } else {
-        Got::No(1)
     }
 }
 

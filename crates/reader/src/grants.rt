@@ -9,6 +9,7 @@ use sorts::Cond;
 use sorts::GrantNo;
 use sorts::Pack;
 use sorts::Prin;
+use sorts::Refusal;
 use sorts::Res;
 use sorts::Row;
 ghost use mathlib.Core.Path.{_≡_};
@@ -58,7 +59,7 @@ pub fn read_grant(s: &[u8], at: usize, left: u8, t: Numbering) -> GrantReading
     if left == 0 {
         return GrantReading {
             table: t,
-            out: GrantOut::Refused(5),
+            out: GrantOut::Refused(Refusal::DEPTH),
         };
     }
     let below = left - 1;

@@ -10,6 +10,7 @@ use rows::Table;
 use sorts::Concl;
 use sorts::GrantNo;
 use sorts::Prin;
+use sorts::Refusal;
 ghost use mathlib.Core.Path.{_≡_};
 ghost use Prim.Native.Nat.{_≤_};
 ghost use lib.ListN.{getD};
@@ -128,7 +129,7 @@ pub fn read_mark(s: &[u8]) -> MarkOut
     ensures { λ r. ⌜ r ≡ asMark (markAt (now (s .entry))) ⌝ }
 {
     if s.len() < 2 {
-        return MarkOut::No(1);
+        return MarkOut::No(Refusal::MISSING);
     }
     let a = s[0];
     let b = s[1];
@@ -260,7 +261,7 @@ fn read_content(k: Kind, s: &[u8], t: Table) -> Reading
         Kind::Qu => read_query(s, 2, t),
         Kind::Other => Reading {
             table: t,
-            found: Found::Refused(2),
+            found: Found::Refused(Refusal::MARK),
         },
     }
 }
@@ -272,7 +273,7 @@ pub fn read_record(s: &[u8], t: Table) -> Reading
     if Table::ROWS < t.count {
         return Reading {
             table: t,
-            found: Found::Refused(9),
+            found: Found::Refused(Refusal::FORM),
         };
     }
     match read_mark(s) {

@@ -1,34 +1,41 @@
-use Rattle.reader.specs.inner.Answers.{asByte}
-use borrow.Author.Tests.{le-leb, le-ltb, lt-leb, lt-ltb}
-use Rattle.reader.specs.Bytes.{byteAt, upto}
+use borrow.Author.Tests.{le-leb, lt-leb}
+use mathlib.Core.Path.{sym, _∙_}
+use Rattle.reader.proofs.Answers.{byte-got, byte-no, is-byte, is-no}
+use Rattle.reader.specs.Bytes.{upto}
 use borrow.Author.Needs.{needs}
 use Rattle.reader.proofs.bytes.read_upto.Statement.{statement}
 use Rattle.reader.proofs.bytes.read_upto.Tie as tie
 use Rattle.reader.proofs.bytes.read_upto.Reads as reads
 use Rattle.reader.proofs.bytes.read_upto.Lts as lts
+use Rattle.reader.proofs.bytes.read_byte.Reads as read-byte-reads
 
--- src/bytes.rt:30:17
-shared-slice-read-b : tie.Need-shared-slice-read-b
-shared-slice-read-b c = search needs
+-- src/bytes.rt:41:11
+read-byte-requires : tie.Need-read-byte-requires
+read-byte-requires c κs = search needs
 
--- src/bytes.rt:32:26
-add-t12 : tie.Need-add-t12
-add-t12 c = search needs
+-- src/bytes.rt:42:17
+enum-known-k : tie.Need-enum-known-k
+enum-known-k c = search needs
 
--- src/bytes.rt:26:1
+-- src/bytes.rt:43:19
+enum-known-b : tie.Need-enum-known-b
+enum-known-b c = search needs
+
+-- src/bytes.rt:38:1
 returns : tie.Need-returns
-unfolding asByte byteAt upto
-returns c = simp (lt-ltb _ _ (c .before .before .if1 .taken), le-leb _ _ (c .if2 .taken))
+unfolding upto
+returns c = is-no (rw (byte-no _ _ (sym ((c .before .before .before .read-byte) .ensures) ∙ c .before .k .given .1)))
 
--- src/bytes.rt:26:1
+-- src/bytes.rt:38:1
 returns-2 : tie.Need-returns-2
-unfolding asByte byteAt upto
-returns-2 c = simp (lt-ltb _ _ (c .before .before .if1 .taken), lt-leb _ _ (c .if2 .left))
+unfolding upto
+returns-2 c = is-byte (rw (byte-got _ _ _ (sym ((c .before .before .before .before .read-byte) .ensures) ∙ c .before .before .b .given .1), le-leb _ _ (c .if1 .taken)))
 
--- src/bytes.rt:26:1
+-- src/bytes.rt:38:1
 returns-3 : tie.Need-returns-3
-unfolding asByte byteAt upto
-returns-3 c = simp (le-ltb _ _ (c .if1 .left))
+unfolding upto
+returns-3 c = is-no (rw (byte-got _ _ _ (sym ((c .before .before .before .before .read-byte) .ensures) ∙ c .before .before .b .given .1), lt-leb _ _ (c .if1 .left)))
 
 pub read-upto-spec : {M : Type 1} → statement M
-read-upto-spec = tie.close (tie.spec shared-slice-read-b add-t12 returns returns-2 returns-3)
+read-upto-spec =
+    tie.close (tie.spec read-byte-requires enum-known-k enum-known-b returns returns-2 returns-3)
