@@ -1,1 +1,4 @@
 pub mod Rules
+pub mod RowForm
+pub mod Standing
+pub mod inner

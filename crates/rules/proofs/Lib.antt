@@ -1,0 +1,11 @@
+pub mod Lists
+pub mod Saturation
+pub mod Bounds
+pub mod Ground
+pub mod Standing
+pub mod Worked
+pub mod Fired
+pub mod Boxes
+pub mod Swept
+pub mod Trimmed
+pub mod Filled

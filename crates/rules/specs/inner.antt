@@ -1,0 +1,4 @@
+-- What only the contracts of inner functions cite.
+pub mod Worked
+pub mod Box
+pub mod Sweep
