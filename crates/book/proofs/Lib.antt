@@ -1,0 +1,6 @@
+pub mod Decided
+pub mod Fits
+pub mod Loops
+pub mod Net
+pub mod Sets
+pub mod Showing

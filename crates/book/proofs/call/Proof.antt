@@ -1,0 +1,60 @@
+use borrow.Author.Needs.{needs}
+use Rattle.book.proofs.call.Statement.{statement}
+use Rattle.book.proofs.call.Tie as tie
+use Rattle.book.proofs.call.Reads as reads
+use Rattle.book.proofs.call.Lts as lts
+use Rattle.book.proofs.Book.table.Reads as table-reads
+use Rattle.book.proofs.apply.Reads as apply-reads
+use Rattle.book.proofs.book_form.in_form.Reads as in-form-reads
+use Rattle.book.proofs.refuse.Reads as refuse-reads
+use Rattle.reader.proofs.records.read_record.Reads as read-record-reads
+
+-- src/lib.rt:202:9
+in-form-requires : tie.Need-in-form-requires
+in-form-requires c κs = search needs
+
+-- src/lib.rt:203:9
+refuse-requires : tie.Need-refuse-requires
+refuse-requires c κs = search needs
+
+-- src/lib.rt:203:9
+same-length : tie.Need-same-length
+same-length c = search needs
+
+-- src/lib.rt:203:9
+returns : tie.Need-returns
+returns c = ?
+
+-- src/lib.rt:205:37
+table-requires : tie.Need-table-requires
+table-requires c κs = search needs
+
+-- src/lib.rt:205:9
+read-record-requires : tie.Need-read-record-requires
+read-record-requires c κs = search needs
+
+-- src/lib.rt:206:5
+apply-requires : tie.Need-apply-requires
+apply-requires c κs = ?
+
+-- src/lib.rt:199:1
+same-length-2 : tie.Need-same-length-2
+same-length-2 c = search needs
+
+-- src/lib.rt:199:1
+returns-2 : tie.Need-returns-2
+returns-2 c = ?
+
+pub call-spec : {M : Type 1} → statement M
+call-spec =
+    tie.close
+    (tie.spec
+    in-form-requires
+    refuse-requires
+    same-length
+    returns
+    table-requires
+    read-record-requires
+    apply-requires
+    same-length-2
+    returns-2)

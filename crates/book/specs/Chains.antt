@@ -1,0 +1,68 @@
+-- Lists of calls from a fresh book.
+use Prim.Native.Nat.{ℕ, zero, suc, _+_}
+use mathlib.Core.Path.{_≡_}
+use mathlib.Core.List.{List, [], _∷_}
+use lib.ListN.{replicate}
+use Rattle.sorts.specs.Blank.{blankRow}
+use Rattle.sorts.specs.Numbers.{allMarks}
+use Rattle.book.specs.declared.Book.{Book}
+use Rattle.book.specs.declared.Counts.{Counts}
+use Rattle.book.specs.declared.Answer.{Answer}
+use Rattle.book.specs.declared.Answer.the-variants.{Permitted, NotPermitted, Changed, Refused}
+use Rattle.book.specs.declared.Answered.{Answered}
+use Rattle.book.specs.Machine.{State, start, step}
+use Rattle.book.specs.Calls.{Called}
+
+-- "A fresh book has blank rows, count 0, and every flag and mark 0."
+abbrev pub freshBook : Book
+freshBook = record { rows = replicate 64 blankRow; count = 0; flags = replicate 1088 0 }
+
+unfoldable pub freshMarks : List ℕ
+freshMarks = replicate allMarks 0
+
+-- One call of a list: the bytes of its record, what it answered, the book and marks it got, and those it left.
+pub record Call : Type 0 where
+  pub record′ : List ℕ
+  pub before : Book
+  pub marks : List ℕ
+  pub gave : Answered
+  pub left : List ℕ
+
+-- "Each call gets the rows, count, flags and marks that the last one left": calls from the book b and marks m on, to the book
+-- b′ and marks m′.
+pub data Chain : Book → List ℕ → List Call → Book → List ℕ → Type 0 where
+  none : {b : Book} {m : List ℕ} → Chain b m [] b m
+  then : {b b′ : Book} {m m′ : List ℕ} {cs : List Call} (s : List ℕ) (r : Answered) (n : List ℕ) →
+      Called b m s r n → Chain (r .book) n cs b′ m′ → Chain b m (record { record′ = s; before = b; marks = m; gave = r; left = n } ∷ cs) b′ m′
+
+-- The records of a list of calls, in order.
+unfoldable pub records : List Call → List (List ℕ)
+records [] = []
+records (c ∷ cs) = c .record′ ∷ records cs
+
+-- The state of the plain machine after it was fed a list of records.
+unfoldable pub runs : State → List (List ℕ) → State
+runs M [] = M
+runs M (s ∷ ss) = runs (step M s .next) ss
+
+-- What one answer gained and lost.
+abbrev pub gainedBy : Answer → ℕ
+gainedBy Permitted = 0
+gainedBy NotPermitted = 0
+gainedBy (Changed c) = c .gained
+gainedBy (Refused k) = 0
+
+abbrev pub lostBy : Answer → ℕ
+lostBy Permitted = 0
+lostBy NotPermitted = 0
+lostBy (Changed c) = c .lost
+lostBy (Refused k) = 0
+
+-- All gains, and all losses, of a list of calls.
+unfoldable pub allGains : List Call → ℕ
+allGains [] = 0
+allGains (c ∷ cs) = gainedBy (c .gave .answer) + allGains cs
+
+unfoldable pub allLosses : List Call → ℕ
+allLosses [] = 0
+allLosses (c ∷ cs) = lostBy (c .gave .answer) + allLosses cs

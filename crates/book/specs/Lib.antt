@@ -1,0 +1,7 @@
+pub mod Machine
+pub mod Closed
+pub mod Counts
+pub mod Books
+pub mod Calls
+pub mod Chains
+pub mod inner

@@ -1,0 +1,61 @@
+// Whether a lent book is in form.
+use crate::Book;
+use rows::Table;
+use sorts::Number;
+ghost use mathlib.Core.Path.{_≡_};
+ghost use Prim.Native.Nat.{ℕ, _≤_};
+ghost use lib.ListN.{length, getD};
+ghost use Rattle.sorts.specs.Decides.{Decides};
+ghost use Rattle.book.specs.Books.{BookForm};
+
+// Whether every byte is 0 or 1.
+fn bits(s: &[u8]) -> bool
+    ensures { λ r. ⌜ Decides r ((i : ℕ) → getD (now (s .entry)) i 0 ≤ 1) ⌝ }
+{
+    let n = s.len();
+    let mut i: usize = 0;
+    while i < n {
+        if 1 < s[i] {
+            return false;
+        }
+        i += 1;
+    }
+    true
+}
+
+// Whether every byte from a place on is 0.
+fn zero_from(s: &[u8], from: usize) -> bool
+    ensures { λ r. ⌜ Decides r ((i : ℕ) → from ≤ i → getD (now (s .entry)) i 0 ≡ 0) ⌝ }
+{
+    let n = s.len();
+    let mut i = from;
+    while i < n {
+        if s[i] != 0 {
+            return false;
+        }
+        i += 1;
+    }
+    true
+}
+
+// Whether the book and the marks lent with it are in form.
+pub fn in_form(b: Book, marks: &[u8]) -> bool
+    ensures { λ r. ⌜ Decides r (BookForm b (now (marks .entry))) ⌝ }
+{
+    if marks.len() != Number::MARKS {
+        return false;
+    }
+    let rows = b.rows;
+    let flags = b.flags;
+    let count = b.count;
+    if !form::table_in_form(Table { rows, count }) {
+        return false;
+    }
+    if !bits(marks) {
+        return false;
+    }
+    if !bits(&flags) {
+        return false;
+    }
+    zero_from(&flags, Book::FLAGS * count)
+}

@@ -1,0 +1,140 @@
+-- The depths that are worked out row by row are the depths of the rows written out.
+use Prim.Native.Nat.{ℕ, zero, suc, _+_, _-_, _<_, _≤_}
+use mathlib.Core.List.{List, [], _∷_, _++_}
+use mathlib.Core.Bool.{Bool, true, false}
+use mathlib.Core.Path.{_≡_, refl, sym, ap, _∙_}
+use mathlib.Core.Logic.{inl, inr}
+use native.Mathlib.Omega.{arith}
+use native.Mathlib.Nat.{not-suc-le-zero}
+use lib.ListN.{length, getD, set, length-set, List·getD-append, List·getD-eq-default}
+use lib.Seq.{getD-append-seam, getD-set-same, getD-set-other}
+use lib.Dec.{ltb}
+use borrow.Author.Tests.{ltb-true, ltb-false}
+use Rattle.sorts.specs.declared.Res.{Res}
+use Rattle.sorts.specs.declared.Res.the-variants.{Issue, Run, Export}
+use Rattle.sorts.specs.declared.Concl.{Concl}
+use Rattle.sorts.specs.declared.Concl.the-variants.{Property, Perm}
+use Rattle.sorts.specs.declared.Cond.{Cond}
+use Rattle.sorts.specs.declared.Row.{Row}
+use Rattle.sorts.specs.Blank.{blankCond, noRow}
+use Rattle.rows.specs.Written.{Grant}
+use Rattle.rows.specs.Form.{noGrant, writeRes, writeConcl, writeConds, writeRow, rowsOut, larger, depth, depthConds, depthConcl, depthRight, RowForm}
+use Rattle.rows.proofs.Rows.{ResBelow, ConclBelow, RowBelow, form-below, below-up, row-ext, write-any, write-issue}
+use Rattle.rows.proofs.Shown.{out-length}
+use Rattle.form.specs.inner.Depths.{depthOfRes, depthOfConcl, depthOfConds}
+use Rattle.form.proofs.Deciding.{each-more}
+
+-- the conditions, from the last to the first
+
+module _ (depths : List ℕ) (cs : List Cond) where
+  pub conds-none : (n : ℕ) → 0 ≡ depthOfConds depths cs n (n - n)
+  unfolding depthOfConds
+  conds-none n = let e : n - n ≡ 0 = omega arith in rw e
+
+  pub conds-before : (j n d e r : ℕ) → 0 < j → j ≤ n → d ≡ depthOfConds depths cs j (n - j) → e ≡ depthOfConcl depths (getD cs (j - 1) blankCond .what) → r ≡ larger e d →
+      r ≡ depthOfConds depths cs (j - 1) (n - (j - 1))
+  unfolding depthOfConds
+  conds-before j n d e r pos le hd he hr =
+      let a : n - (j - 1) ≡ suc (n - j) = omega arith in
+      let b : j - 1 + 1 ≡ j = omega arith in
+      rw (a, b) (rw (← hd, ← he) hr)
+
+  pub conds-all : (j n d : ℕ) → j ≤ 0 → d ≡ depthOfConds depths cs j (n - j) → d ≡ depthOfConds depths cs 0 n
+  conds-all j n d le h =
+      let a : j ≡ 0 = omega arith in
+      let b : n - j ≡ n = omega arith in
+      rw (b, a) at h
+
+-- where the depths of the grants with numbers below i are right, so is that of a row that holds no others
+
+module _ (depths : List ℕ) (N : List Grant) (i : ℕ) (small : i ≤ 64) (long : length depths ≡ 64) (known : (j : ℕ) → j < i → getD depths j 0 ≡ depth (getD N j noGrant)) where
+  res-right : (x : Res) → ResBelow i x → depthOfRes depths x ≡ depthRight (writeRes N x)
+  unfolding depthOfRes depth
+  res-right (Issue g) (inl l) = known (g .0) l ∙ ap depthRight (sym (write-issue N (g .0) (omega arith)))
+  res-right (Issue g) (inr e) = List·getD-eq-default depths 0 (omega arith) ∙ ap depthRight (sym (write-any N (g .0) e))
+  res-right (Run n) b = refl
+  res-right (Export n) b = refl
+
+  concl-right : (x : Concl) → ConclBelow i x → depthOfConcl depths x ≡ depthConcl (writeConcl N x)
+  unfolding depthOfConcl depth
+  concl-right (Property k p) b = refl
+  concl-right (Perm p x) b = res-right x b
+
+  conds-right : (cs : List Cond) (a k : ℕ) → ((j : ℕ) → j < a + k → ConclBelow i (getD cs j blankCond .what)) → depthOfConds depths cs a k ≡ depthConds (writeConds N cs a k)
+  unfolding depthOfConds depth writeConds
+  conds-right cs a zero b = refl
+  conds-right cs a (suc k) b =
+      λ z. larger (concl-right (getD cs a blankCond .what) (b a (omega arith)) z) (conds-right cs (a + 1) k (λ j l. b j (omega arith)) z)
+
+  pub row-right : (x : Row) → RowBelow i x → suc (larger (depthOfConds depths (x .conds) 0 (x .count)) (depthOfConcl depths (x .head))) ≡ depth (writeRow N x)
+  unfolding depth writeRow
+  row-right x b = λ z. suc (larger (conds-right (x .conds) 0 (x .count) (λ j l. b .used j (omega arith)) z) (concl-right (x .head) (b .head) z))
+
+-- the depth of the deepest grant that a row holds
+abbrev heldDepth : List ℕ → Row → ℕ
+heldDepth depths x = larger (depthOfConds depths (x .conds) 0 (x .count)) (depthOfConcl depths (x .head))
+
+-- the depth of row i
+abbrev depthAt : List Row → ℕ → ℕ → ℕ
+depthAt rows count i = depth (getD (rowsOut rows count) i noGrant)
+
+-- the depths of the rows below i, worked out
+pub record Worked (rows : List Row) (count i : ℕ) (depths : List ℕ) : Type 0 where
+  pub places : length depths ≡ 64
+  pub right : (j : ℕ) → j < i → getD depths j 0 ≡ depthAt rows count j
+  pub low : (j : ℕ) → j < i → depthAt rows count j ≤ 4
+
+-- rows that are in form, each by itself
+
+module _ (rows : List Row) (count : ℕ) (small : count ≤ 64) (used : (i : ℕ) → i < count → RowForm i (getD rows i noRow)) where
+  abbrev rowAt : ℕ → Row
+  rowAt i = getD rows i noRow
+
+  abbrev out : ℕ → List Grant
+  out k = rowsOut rows k
+
+  at-below : (k i : ℕ) → i ≤ k → i < count → RowBelow (length (out k)) (rowAt i)
+  at-below k i l h = below-up i (length (out k)) (rowAt i) (omega (arith, out-length rows k)) (form-below i (rowAt i) (used i h))
+
+  -- what stands at a number is the row of that number, written out
+  out-at : (k : ℕ) → k ≤ count → (i : ℕ) → i < k → getD (out k) i noGrant ≡ writeRow (out k) (rowAt i)
+  unfolding rowsOut
+  out-at zero h i l = absurd (not-suc-le-zero l)
+  out-at (suc k) h i l = go (ltb i k) refl (out-at k (omega arith) i)
+    where
+      g : Grant
+      g = writeRow (out k) (rowAt k)
+
+      fits : length (out k) ≤ 64
+      fits = omega (arith, out-length rows k)
+
+      go : (b : Bool) → ltb i k ≡ b → (i < k → getD (out k) i noGrant ≡ writeRow (out k) (rowAt i)) → getD (out k ++ (g ∷ [])) i noGrant ≡ writeRow (out k ++ (g ∷ [])) (rowAt i)
+      go true q ih =
+          let a = ltb-true i k q in
+          List·getD-append (out k) (g ∷ []) noGrant i (omega (arith, out-length rows k)) ∙ ih a ∙
+          sym (row-ext (out k) (g ∷ []) fits (rowAt i) (at-below k i (omega arith) (omega arith)))
+      go false q ih =
+          let a = ltb-false i k q in
+          let e : i ≡ length (out k) = omega (arith, out-length rows k) in
+          let d : i ≡ k = omega arith in
+          ap (λ (n : ℕ). getD (out k ++ (g ∷ [])) n noGrant) e ∙ getD-append-seam (out k) g [] noGrant ∙
+          sym (row-ext (out k) (g ∷ []) fits (rowAt k) (at-below k k (omega arith) (omega arith))) ∙ ap (λ (n : ℕ). writeRow (out k ++ (g ∷ [])) (rowAt n)) (sym d)
+
+  depth-right : (i : ℕ) (depths : List ℕ) → i < count → Worked rows count i depths → suc (heldDepth depths (rowAt i)) ≡ depthAt rows count i
+  depth-right i depths l w =
+      row-right depths (out count) i (omega arith) (w .places) (w .right) (rowAt i) (form-below i (rowAt i) (used i l)) ∙ ap depth (sym (out-at count (omega arith) i l))
+
+  pub too-deep : (i d : ℕ) (depths : List ℕ) → i < count → Worked rows count i depths → d ≡ heldDepth depths (rowAt i) → 3 < d → depthAt rows count i ≤ 4 → ⊥
+  too-deep i d depths l w e h f = let r = depth-right i depths l w in omega arith
+
+  pub worked-more : (i d : ℕ) (depths : List ℕ) → i < count → Worked rows count i depths → d ≡ heldDepth depths (rowAt i) → d ≤ 3 → Worked rows count (i + 1) (set depths i (d + 1))
+  worked-more i d depths l w e h = record {
+    places = length-set depths i (d + 1) ∙ w .places;
+    right = each-more (λ (j : ℕ). getD (set depths i (d + 1)) j 0 ≡ depthAt rows count j) i
+        (λ j m. getD-set-other depths i j (d + 1) 0 (λ (q : j ≡ i). omega arith) ∙ w .right j m)
+        (getD-set-same depths i (d + 1) 0 (omega (arith, w .places)) ∙ here);
+    low = each-more (λ (j : ℕ). depthAt rows count j ≤ 4) i (w .low) (omega (arith, here));
+  }
+    where
+      here : d + 1 ≡ depthAt rows count i
+      here = let r = depth-right i depths l w in omega arith

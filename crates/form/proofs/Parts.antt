@@ -1,0 +1,103 @@
+-- The tests of the parts of a row decide their forms.
+use Prim.Native.Nat.{ℕ, _<_, _≤_}
+use mathlib.Core.Bool.{Bool, true, false}
+use mathlib.Core.Path.{_≡_}
+use mathlib.Core.Logic.{_⊎_, inl, inr}
+use native.Mathlib.Omega.{arith}
+use lib.ListN.{length, getD}
+use lib.Dec.{eqb, ltb}
+use Rattle.sorts.specs.declared.Prin.{Prin}
+use Rattle.sorts.specs.declared.GrantNo.{GrantNo}
+use Rattle.sorts.specs.declared.Pack.{Pack}
+use Rattle.sorts.specs.declared.Res.{Res}
+use Rattle.sorts.specs.declared.Concl.the-variants.{Property, Perm}
+use Rattle.sorts.specs.declared.Cond.{Cond}
+use Rattle.sorts.specs.declared.Row.{Row}
+use Rattle.sorts.specs.Blank.{blankCond, blankRow, noRow}
+use Rattle.rows.specs.declared.Table.{Table}
+use Rattle.sorts.specs.Decides.{Decides}
+use Rattle.rows.specs.Form.{PrinForm, PackForm, ResForm, ConclForm, CondForm, RowForm, TableForm, depth, rowsOut, noGrant}
+use Rattle.form.proofs.Deciding.{lt-decides, eq-decides}
+
+module _ (prins : ℕ) (p : Prin) where
+  pub prin-first : p .0 ≡ 128 → Decides (ltb 0 prins) (PrinForm prins p)
+  prin-first e = lt-decides {A = PrinForm prins p} 0 prins (λ h. inr (inl (e, h))) back
+    where
+      back : PrinForm prins p → 0 < prins
+      back (inl h) = absurd (omega arith)
+      back (inr (inl h)) = h .1
+      back (inr (inr h)) = absurd (omega (arith, h .0))
+
+  pub prin-second : p .0 ≡ 129 → Decides (ltb 1 prins) (PrinForm prins p)
+  prin-second e = lt-decides {A = PrinForm prins p} 1 prins (λ h. inr (inr (e, h))) back
+    where
+      back : PrinForm prins p → 1 < prins
+      back (inl h) = absurd (omega arith)
+      back (inr (inl h)) = absurd (omega (arith, h .0))
+      back (inr (inr h)) = h .1
+
+  pub prin-other : (p .0 ≡ 128 → ⊥) → (p .0 ≡ 129 → ⊥) → Decides (ltb (p .0) 16) (PrinForm prins p)
+  prin-other a b = lt-decides {A = PrinForm prins p} (p .0) 16 (λ h. inl h) back
+    where
+      back : PrinForm prins p → p .0 < 16
+      back (inl h) = h
+      back (inr (inl h)) = absurd (a (h .0))
+      back (inr (inr h)) = absurd (b (h .0))
+
+module _ (res : ℕ) (n : Pack) where
+  pub pack-any : n .0 ≡ 128 → Decides (eqb res 2) (PackForm res n)
+  pack-any e = eq-decides {A = PackForm res n} res 2 (λ h. inr (e, h)) back
+    where
+      back : PackForm res n → res ≡ 2
+      back (inl h) = absurd (omega arith)
+      back (inr h) = h .1
+
+  pub pack-other : (n .0 ≡ 128 → ⊥) → Decides (ltb (n .0) 32) (PackForm res n)
+  pack-other a = lt-decides {A = PackForm res n} (n .0) 32 (λ h. inl h) back
+    where
+      back : PackForm res n → n .0 < 32
+      back (inl h) = h
+      back (inr h) = absurd (a (h .0))
+
+module _ (i res : ℕ) (g : GrantNo) (not-lower : i ≤ g .0) where
+  abbrev GrantForm : Type 0
+  GrantForm = (g .0 < i) ⊎ ((g .0 ≡ 128) × (res ≡ 1))
+
+  pub grant-any : g .0 ≡ 128 → Decides (eqb res 1) ((g .0 < i) ⊎ ((g .0 ≡ 128) × (res ≡ 1)))
+  grant-any e = eq-decides {A = GrantForm} res 1 (λ h. inr (e, h)) back
+    where
+      back : GrantForm → res ≡ 1
+      back (inl h) = absurd (omega arith)
+      back (inr h) = h .1
+
+  pub grant-other : (g .0 ≡ 128 → ⊥) → (g .0 < i) ⊎ ((g .0 ≡ 128) × (res ≡ 1)) → ⊥
+  grant-other a (inl h) = omega arith
+  grant-other a (inr h) = a (h .0)
+
+module _ (i prins res : ℕ) where
+  pub property-decides : (k : ℕ) (p : Prin) (b : Bool) → k < 16 → Decides b (PrinForm prins p) → Decides b (ConclForm i prins res (Property k p))
+  property-decides k p true h d = (h, d)
+  property-decides k p false h d = λ f. d (f .1)
+
+  pub perm-decides : (p : Prin) (x : Res) (b : Bool) → PrinForm prins p → Decides b (ResForm i res x) → Decides b (ConclForm i prins res (Perm p x))
+  perm-decides p x true h d = (h, d)
+  perm-decides p x false h d = λ f. d (f .1)
+
+  pub cond-decides : (c : Cond) (b : Bool) → PrinForm prins (c .who) → Decides b (ConclForm i prins res (c .what)) → Decides b (CondForm i prins res c)
+  cond-decides c true h d = (h, d)
+  cond-decides c false h d = λ f. d (f .1)
+
+-- the last part that is tested decides the form of the row
+pub row-decides : (i : ℕ) (x : Row) (b : Bool) → x .prins ≤ 2 → x .res ≤ 2 → x .count ≤ 4 → length (x .conds) ≡ 4 →
+    ((j : ℕ) → j < x .count → CondForm i (x .prins) (x .res) (getD (x .conds) j blankCond)) → ConclForm i (x .prins) (x .res) (x .head) →
+    Decides b ((j : ℕ) → x .count ≤ j → getD (x .conds) j blankCond ≡ blankCond) → Decides b (RowForm i x)
+row-decides i x true hp hr hc hl hu hh d = record { prins = hp; res = hr; count = hc; places = hl; used = hu; unused = d; head = hh }
+row-decides i x false hp hr hc hl hu hh d = λ f. d (f .unused)
+
+-- and the last of what is tested of a table, the form of the table
+pub table-decides : (t : Table) (b : Bool) → length (t .rows) ≡ 64 → t .count ≤ 64 → ((i : ℕ) → i < t .count → RowForm i (getD (t .rows) i noRow)) →
+    ((i : ℕ) → t .count ≤ i → i < 64 → getD (t .rows) i noRow ≡ blankRow) →
+    ((i j : ℕ) → i < t .count → j < t .count → getD (t .rows) i noRow ≡ getD (t .rows) j noRow → i ≡ j) →
+    Decides b ((i : ℕ) → i < t .count → depth (getD (rowsOut (t .rows) (t .count)) i noGrant) ≤ 4) → Decides b (TableForm t)
+table-decides t true hl hc hu hn hd d = record { places = hl; count = hc; used = hu; unused = hn; distinct = hd; depths = d }
+table-decides t false hl hc hu hn hd d = λ f. d (f .depths)
