@@ -1,5 +1,8 @@
 pub mod Decided
 pub mod Fits
+pub mod Following
+pub mod Forms
+pub mod Keeping
 pub mod Loops
 pub mod Net
 pub mod Sets

@@ -10,7 +10,7 @@ use Rattle.book.specs.declared.Book.{Book}
 use Rattle.book.specs.declared.Answer.{Answer}
 use Rattle.book.specs.declared.Answer.the-variants.{Permitted, NotPermitted, Changed, Refused}
 use Rattle.book.specs.declared.Answered.{Answered}
-use Rattle.book.specs.Machine.{State, Verdict, changes, asks, no, step}
+use Rattle.book.specs.Machine.{State, Verdict, changes, asks, refuses, step}
 use Rattle.book.specs.Books.{BookForm, Shows}
 use Rattle.book.specs.Counts.{countsOf}
 
@@ -18,14 +18,14 @@ use Rattle.book.specs.Counts.{countsOf}
 unfoldable pub answerOf : Verdict → List ℕ → List ℕ → Answer
 answerOf changes m n = Changed (countsOf m n)
 answerOf (asks c) m n = cond (eqb (getD m c 0) 1) Permitted NotPermitted
-answerOf (no k) m n = Refused k
+answerOf (refuses k) m n = Refused k
 
 -- "After an accepted TG, ST, LI or WD the marks are worked out from the rows, whichever marks stood." QU "changes no mark";
 -- "every refusal .. leaves rows, flags and marks unchanged".
 unfoldable pub marksAfter : Verdict → Book → List ℕ → List ℕ
 marksAfter changes b m = standing (b .rows) (b .flags)
 marksAfter (asks c) b m = m
-marksAfter (no k) b m = m
+marksAfter (refuses k) b m = m
 
 -- A call on a book in form that shows the state M: marks m before and n after.
 pub record Follows (M : State) (b : Book) (m s : List ℕ) (r : Answered) (n : List ℕ) : Type 0 where
@@ -34,7 +34,7 @@ pub record Follows (M : State) (b : Book) (m s : List ℕ) (r : Answered) (n : L
   pub marks : n ≡ marksAfter (step M s .says) (r .book) m
   pub shows : Shows (r .book) (step M s .next)
   pub form : BookForm (r .book) n
-  pub kept : (k : ℕ) → step M s .says ≡ no k → r .book ≡ b
+  pub kept : (k : ℕ) → step M s .says ≡ refuses k → r .book ≡ b
 
 -- THE PROMISE of a call, whatever book, marks and bytes: out of form it is refused with 9 and uses no byte; in form it follows
 -- the machine. Either way a refusal leaves the book and the marks as they were.

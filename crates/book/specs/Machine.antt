@@ -51,7 +51,7 @@ withoutLicence x (y ∷ L) = cond (sameLicence x y) (withoutLicence x L) (y ∷ 
 pub data Verdict : Type 0 where
   changes : Verdict
   asks : ℕ → Verdict
-  no : ℕ → Verdict
+  refuses : ℕ → Verdict
 
 -- The state after a record, what the machine says, and the bytes used.
 pub record Step : Type 0 where
@@ -61,7 +61,7 @@ pub record Step : Type 0 where
 
 -- "A refused record changes nothing."
 abbrev pub refuse : State → ℕ → ℕ → Step
-refuse M k n = record { next = M; says = no k; used = n }
+refuse M k n = record { next = M; says = refuses k; used = n }
 
 -- "TG adds its grant to T, LI its pair to L, ST and WD remove theirs; TG, LI and QU append their new grants to N, each once,
 -- in the order of numbering." 6: "the grants that the record would number and those in N exceed 64". 7: "the grant or licence

@@ -1,4 +1,4 @@
--- The tests of sameness decide equality.
+-- The tests of sameness decide equality; the blank conditions of a row, and the distinct rows of a table.
 use Prim.Native.Nat.{ℕ, _<_, _≤_}
 use mathlib.Core.Bool.{Bool, true, false}
 use mathlib.Core.Path.{_≡_, refl, sym, ap, _∙_}

@@ -1,4 +1,4 @@
--- Tests, and what they decide; and what holds of each number that a loop has passed.
+-- Tests and what they decide; what holds of each number that a loop has passed; and how long an array in a struct is.
 use Prim.Native.Nat.{ℕ, _+_, _<_}
 use mathlib.Core.Bool.{Bool, true, false}
 use mathlib.Core.List.{List, map}
@@ -32,6 +32,6 @@ each-more P n old last i h = go (ltb i n) refl
     go true q = old i (ltb-true i n q)
     go false q = let l = ltb-false i n q in let e : i ≡ n = omega arith in subst P (sym e) last
 
--- A list is as long as what is made of it element by element: so the array in a struct tells its length.
+-- A list is as long as what is made of it element by element, which is what a struct tells of an array in it.
 pub length-mapped : (X Y : Type 0) (f : X → Y) (l : List X) (n : ℕ) → length (map f l) ≡ n → length l ≡ n
 length-mapped X Y f l n e = sym (length-map l f) ∙ e

@@ -21,7 +21,7 @@ use Rattle.rows.specs.Written.{Grant}
 use Rattle.rows.specs.Form.{noGrant, writeRes, writeConcl, writeConds, writeRow, rowsOut, larger, depth, depthConds, depthConcl, depthRight, RowForm}
 use Rattle.rows.proofs.Rows.{ResBelow, ConclBelow, RowBelow, form-below, below-up, row-ext, write-any, write-issue}
 use Rattle.rows.proofs.Shown.{out-length}
-use Rattle.form.specs.inner.Depths.{depthOfRes, depthOfConcl, depthOfConds}
+use Rattle.form.specs.inner.Depths.{depthOfRes, depthOfConcl, depthOfConds, heldDepth}
 use Rattle.form.proofs.Deciding.{each-more}
 
 -- the conditions, from the last to the first
@@ -66,13 +66,9 @@ module _ (depths : List ℕ) (N : List Grant) (i : ℕ) (small : i ≤ 64) (long
   conds-right cs a (suc k) b =
       λ z. larger (concl-right (getD cs a blankCond .what) (b a (omega arith)) z) (conds-right cs (a + 1) k (λ j l. b j (omega arith)) z)
 
-  pub row-right : (x : Row) → RowBelow i x → suc (larger (depthOfConds depths (x .conds) 0 (x .count)) (depthOfConcl depths (x .head))) ≡ depth (writeRow N x)
+  row-right : (x : Row) → RowBelow i x → suc (heldDepth depths x) ≡ depth (writeRow N x)
   unfolding depth writeRow
   row-right x b = λ z. suc (larger (conds-right (x .conds) 0 (x .count) (λ j l. b .used j (omega arith)) z) (concl-right (x .head) (b .head) z))
-
--- the depth of the deepest grant that a row holds
-abbrev heldDepth : List ℕ → Row → ℕ
-heldDepth depths x = larger (depthOfConds depths (x .conds) 0 (x .count)) (depthOfConcl depths (x .head))
 
 -- the depth of row i
 abbrev depthAt : List Row → ℕ → ℕ → ℕ

@@ -1,8 +1,8 @@
--- The tests of the parts of a row decide their forms.
+-- The tests of the parts of a row, of a row and of a table decide their forms.
 use Prim.Native.Nat.{ℕ, _<_, _≤_}
 use mathlib.Core.Bool.{Bool, true, false}
 use mathlib.Core.Path.{_≡_}
-use mathlib.Core.Logic.{_⊎_, inl, inr}
+use mathlib.Core.Logic.{inl, inr}
 use native.Mathlib.Omega.{arith}
 use lib.ListN.{length, getD}
 use lib.Dec.{eqb, ltb}
@@ -10,6 +10,7 @@ use Rattle.sorts.specs.declared.Prin.{Prin}
 use Rattle.sorts.specs.declared.GrantNo.{GrantNo}
 use Rattle.sorts.specs.declared.Pack.{Pack}
 use Rattle.sorts.specs.declared.Res.{Res}
+use Rattle.sorts.specs.declared.Res.the-variants.{Issue}
 use Rattle.sorts.specs.declared.Concl.the-variants.{Property, Perm}
 use Rattle.sorts.specs.declared.Cond.{Cond}
 use Rattle.sorts.specs.declared.Row.{Row}
@@ -60,17 +61,14 @@ module _ (res : ℕ) (n : Pack) where
       back (inr h) = absurd (a (h .0))
 
 module _ (i res : ℕ) (g : GrantNo) (not-lower : i ≤ g .0) where
-  abbrev GrantForm : Type 0
-  GrantForm = (g .0 < i) ⊎ ((g .0 ≡ 128) × (res ≡ 1))
-
-  pub grant-any : g .0 ≡ 128 → Decides (eqb res 1) ((g .0 < i) ⊎ ((g .0 ≡ 128) × (res ≡ 1)))
-  grant-any e = eq-decides {A = GrantForm} res 1 (λ h. inr (e, h)) back
+  pub grant-any : g .0 ≡ 128 → Decides (eqb res 1) (ResForm i res (Issue g))
+  grant-any e = eq-decides {A = ResForm i res (Issue g)} res 1 (λ h. inr (e, h)) back
     where
-      back : GrantForm → res ≡ 1
+      back : ResForm i res (Issue g) → res ≡ 1
       back (inl h) = absurd (omega arith)
       back (inr h) = h .1
 
-  pub grant-other : (g .0 ≡ 128 → ⊥) → (g .0 < i) ⊎ ((g .0 ≡ 128) × (res ≡ 1)) → ⊥
+  pub grant-other : (g .0 ≡ 128 → ⊥) → ResForm i res (Issue g) → ⊥
   grant-other a (inl h) = omega arith
   grant-other a (inr h) = a (h .0)
 

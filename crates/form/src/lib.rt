@@ -1,4 +1,4 @@
-// The form of a grant table: what every table that a book holds satisfies, and a lent one must.
+// The form that a grant table must have, and the test of it.
 use rows::Table;
 use sorts::Concl;
 use sorts::Cond;
@@ -8,13 +8,13 @@ use sorts::Prin;
 use sorts::Res;
 use sorts::Row;
 ghost use mathlib.Core.Path.{_≡_};
-ghost use mathlib.Core.Logic.{_⊎_};
 ghost use Prim.Native.Nat.{ℕ, _≤_, _<_};
 ghost use lib.ListN.{getD};
+ghost use Rattle.sorts.specs.declared.Res.the-variants.{Issue};
 ghost use Rattle.sorts.specs.Blank.{blankCond, blankRow, noRow};
 ghost use Rattle.sorts.specs.Decides.{Decides};
 ghost use Rattle.rows.specs.Form.{PrinForm, PackForm, ResForm, ConclForm, CondForm, RowForm, TableForm, larger, depth, rowsOut, noGrant};
-ghost use Rattle.form.specs.inner.Depths.{depthOfRes, depthOfConcl, depthOfConds};
+ghost use Rattle.form.specs.inner.Depths.{depthOfRes, depthOfConcl, depthOfConds, heldDepth};
 
 // How many properties there are.
 const PROPERTIES: u8 = 16;
@@ -44,7 +44,7 @@ fn pack_ok(res: u8, p: Pack) -> bool
 
 // Whether a grant number in row i is lower than i, or the grant variable where the row declares it.
 fn grant_ok(i: usize, res: u8, g: GrantNo) -> bool
-    ensures { λ r. ⌜ Decides r ((g .0 < i) ⊎ ((g .0 ≡ 128) × (res ≡ 1))) ⌝ }
+    ensures { λ r. ⌜ Decides r (ResForm i res (Issue g)) ⌝ }
 {
     let n = g.0;
     if (n as usize) < i {
@@ -271,7 +271,7 @@ fn conds_depth(depths: [u8; 64], x: Row) -> u8
 // The depth of the deepest grant that a row holds, 0 where it holds none.
 fn held_depth(depths: [u8; 64], x: Row) -> u8
     requires { ⌜ x .count ≤ 4 ⌝ }
-    ensures { λ r. ⌜ r ≡ larger (depthOfConds depths (x .conds) 0 (x .count)) (depthOfConcl depths (x .head)) ⌝ }
+    ensures { λ r. ⌜ r ≡ heldDepth depths x ⌝ }
 {
     let e = x.head;
     max(conds_depth(depths, x), concl_depth(depths, e))

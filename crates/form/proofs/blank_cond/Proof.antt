@@ -10,7 +10,7 @@ same-cond-requires : tie.Need-same-cond-requires
 same-cond-requires c κs = search needs
 
 returns : tie.Need-returns
-returns c = rw ((c .same-cond) .ensures, (c .before .blank) .ensures) (blank-decides ((c .before .before .args) .c))
+returns c = rw (c .same-cond .ensures, c .before .blank .ensures) (blank-decides (c .before .before .args .c))
 
 pub blank-cond-spec : {M : Type 1} → statement M
 blank-cond-spec = tie.close (tie.spec blank-requires same-cond-requires returns)

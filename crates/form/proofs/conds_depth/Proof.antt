@@ -16,7 +16,7 @@ cast-j : tie.Need-cast-j Inv-loop μ-loop
 cast-j c = search needs
 
 loop-holds : tie.Need-loop-holds Inv-loop μ-loop
-loop-holds c = (search needs, conds-none ((c .args) .depths) ((c .args) .t2 .conds) ((c .args) .t2 .count))
+loop-holds c = (search needs, conds-none (c .args .depths) (c .args .t2 .conds) (c .args .t2 .count))
 
 sub-j : tie.Need-sub-j Inv-loop μ-loop
 sub-j c = search needs
@@ -37,10 +37,14 @@ loop-less : tie.Need-loop-less Inv-loop μ-loop
 loop-less c = search needs
 
 loop-again : tie.Need-loop-again Inv-loop μ-loop
-loop-again c = (search needs, conds-before ((c .before .before .before .before .before .args) .depths) ((c .before .before .before .before .before .args) .t2 .conds) ((c .before .before .before .before .loop) .j) ((c .before .before .before .before .before .args) .t2 .count) ((c .before .before .before .before .loop) .d) ((c .before .concl-depth) .result) ((c .max) .result) ((c .before .before .before .loop-test) .taken) ((c .before .before .before .before .loop) .inv .0) ((c .before .before .before .before .loop) .inv .1) ((c .before .concl-depth) .ensures) ((c .max) .ensures))
+loop-again c = (
+  search needs,
+  conds-before (c .before .before .before .before .before .args .depths) (c .before .before .before .before .before .args .t2 .conds) (c .before .before .before .before .loop .j) (c .before .before .before .before .before .args .t2 .count) (c .before .before .before .before .loop .d) (c .before .concl-depth .result) (c .max .result)
+      (c .before .before .before .loop-test .taken) (c .before .before .before .before .loop .inv .0) (c .before .before .before .before .loop .inv .1) (c .before .concl-depth .ensures) (c .max .ensures),
+)
 
 returns : tie.Need-returns Inv-loop μ-loop
-returns c = conds-all ((c .before .before .args) .depths) ((c .before .before .args) .t2 .conds) ((c .before .loop) .j) ((c .before .before .args) .t2 .count) ((c .before .loop) .d) ((c .loop-test) .left) ((c .before .loop) .inv .1)
+returns c = conds-all (c .before .before .args .depths) (c .before .before .args .t2 .conds) (c .before .loop .j) (c .before .before .args .t2 .count) (c .before .loop .d) (c .loop-test .left) (c .before .loop .inv .1)
 
 pub conds-depth-spec : {M : Type 1} → statement M
 conds-depth-spec =

@@ -1,4 +1,4 @@
-use Prim.Native.Nat.{_≤_, _-_}
+use Prim.Native.Nat.{_-_}
 use mathlib.Core.Path.{refl}
 use native.Mathlib.Omega.{arith}
 use borrow.Author.Needs.{needs}
@@ -7,13 +7,13 @@ use Rattle.form.proofs.depths_ok.Statement.{statement}
 use Rattle.form.proofs.depths_ok.Tie as tie
 
 abbrev Inv-loop : tie.InvT-loop
-Inv-loop t n depths₀ i₀ depths i = (i ≤ n) × Worked (t .rows) (t .count) i depths
+Inv-loop t n depths₀ i₀ depths i = Worked (t .rows) (t .count) i depths
 
 abbrev μ-loop : tie.MeasureT-loop
 μ-loop t n depths₀ i₀ depths i = n - i
 
 loop-holds : tie.Need-loop-holds Inv-loop μ-loop
-loop-holds c = (search needs, record { places = refl; right = λ j l. absurd (omega arith); low = λ j l. absurd (omega arith) })
+loop-holds c = record { places = refl; right = λ j l. absurd (omega arith); low = λ j l. absurd (omega arith) }
 
 mul-x : tie.Need-mul-x Inv-loop μ-loop
 mul-x c = search needs
@@ -22,10 +22,13 @@ element-copy-out-x : tie.Need-element-copy-out-x Inv-loop μ-loop
 element-copy-out-x c = search needs
 
 held-depth-requires : tie.Need-held-depth-requires Inv-loop μ-loop
-held-depth-requires c κs = (c .before .before .before .pre) .1 ((c .before .before .loop) .i) ((c .before .loop-test) .taken) .count
+held-depth-requires c κs = c .before .before .before .pre .1 (c .before .before .loop .i) (c .before .loop-test .taken) .count
 
 returns : tie.Need-returns Inv-loop μ-loop
-returns c = λ f. too-deep ((c .before .before .before .before .before .args) .t1 .rows) ((c .before .before .before .before .before .args) .t1 .count) ((c .before .before .before .before .before .pre) .0) ((c .before .before .before .before .before .pre) .1) ((c .before .before .before .before .loop) .i) ((c .before .held-depth) .result) ((c .before .before .before .before .loop) .depths) ((c .before .before .before .loop-test) .taken) ((c .before .before .before .before .loop) .inv .1) ((c .before .held-depth) .ensures) (search needs) (f ((c .before .before .before .before .loop) .i) ((c .before .before .before .loop-test) .taken))
+returns c =
+    λ f.
+    too-deep (c .before .before .before .before .before .args .t1 .rows) (c .before .before .before .before .before .args .t1 .count) (c .before .before .before .before .before .pre .0) (c .before .before .before .before .before .pre .1) (c .before .before .before .before .loop .i) (c .before .held-depth .result) (c .before .before .before .before .loop .depths)
+    (c .before .before .before .loop-test .taken) (c .before .before .before .before .loop .inv) (c .before .held-depth .ensures) (search needs) (f (c .before .before .before .before .loop .i) (c .before .before .before .loop-test .taken))
 
 add-depths : tie.Need-add-depths Inv-loop μ-loop
 add-depths c = search needs
@@ -40,10 +43,12 @@ loop-less : tie.Need-loop-less Inv-loop μ-loop
 loop-less c = search needs
 
 loop-again : tie.Need-loop-again Inv-loop μ-loop
-loop-again c = (search needs, worked-more ((c .before .before .before .before .before .args) .t1 .rows) ((c .before .before .before .before .before .args) .t1 .count) ((c .before .before .before .before .before .pre) .0) ((c .before .before .before .before .before .pre) .1) ((c .before .before .before .before .loop) .i) ((c .before .held-depth) .result) ((c .before .before .before .before .loop) .depths) ((c .before .before .before .loop-test) .taken) ((c .before .before .before .before .loop) .inv .1) ((c .before .held-depth) .ensures) (search needs))
+loop-again c =
+    worked-more (c .before .before .before .before .before .args .t1 .rows) (c .before .before .before .before .before .args .t1 .count) (c .before .before .before .before .before .pre .0) (c .before .before .before .before .before .pre .1) (c .before .before .before .before .loop .i) (c .before .held-depth .result) (c .before .before .before .before .loop .depths)
+    (c .before .before .before .loop-test .taken) (c .before .before .before .before .loop .inv) (c .before .held-depth .ensures) (search needs)
 
 returns-2 : tie.Need-returns-2 Inv-loop μ-loop
-returns-2 c = let l = (c .loop-test) .left in λ k h. (c .before .loop) .inv .1 .low k (omega arith)
+returns-2 c = let l = c .loop-test .left in λ k h. c .before .loop .inv .low k (omega arith)
 
 pub depths-ok-spec : {M : Type 1} → statement M
 depths-ok-spec =

@@ -1,4 +1,4 @@
-use Prim.Native.Nat.{ℕ, _<_, _≤_, _-_}
+use Prim.Native.Nat.{ℕ, _<_, _-_}
 use mathlib.Core.Path.{_≡_}
 use lib.ListN.{getD}
 use borrow.Author.Needs.{needs}
@@ -9,7 +9,7 @@ use Rattle.form.proofs.new_row.Statement.{statement}
 use Rattle.form.proofs.new_row.Tie as tie
 
 abbrev Inv-loop : tie.InvT-loop
-Inv-loop i t x k₀ k = (k ≤ i) × ((j : ℕ) → j < k → getD (t .rows) j noRow ≡ getD (t .rows) i noRow → ⊥)
+Inv-loop i t x k₀ k = (j : ℕ) → j < k → getD (t .rows) j noRow ≡ getD (t .rows) i noRow → ⊥
 
 abbrev μ-loop : tie.MeasureT-loop
 μ-loop i t x k₀ k = i - k
@@ -21,7 +21,7 @@ element-copy-out-x : tie.Need-element-copy-out-x Inv-loop μ-loop
 element-copy-out-x c = search needs
 
 loop-holds : tie.Need-loop-holds Inv-loop μ-loop
-loop-holds c = (search needs, λ j l. absurd (omega arith))
+loop-holds c = λ j l. absurd (omega arith)
 
 mul-y : tie.Need-mul-y Inv-loop μ-loop
 mul-y c = search needs
@@ -33,7 +33,7 @@ equal-rows-requires : tie.Need-equal-rows-requires Inv-loop μ-loop
 equal-rows-requires c κs = search needs
 
 returns : tie.Need-returns Inv-loop μ-loop
-returns c = λ f. f ((c .before .before .before .before .loop) .k) ((c .before .before .before .loop-test) .taken) (rw ((c .if1) .taken) at ((c .before .equal-rows) .ensures))
+returns c = λ f. f (c .before .before .before .before .loop .k) (c .before .before .before .loop-test .taken) (rw (c .if1 .taken) at (c .before .equal-rows .ensures))
 
 add-k : tie.Need-add-k Inv-loop μ-loop
 add-k c = search needs
@@ -42,10 +42,10 @@ loop-less : tie.Need-loop-less Inv-loop μ-loop
 loop-less c = search needs
 
 loop-again : tie.Need-loop-again Inv-loop μ-loop
-loop-again c = (search needs, each-more _ ((c .before .before .before .before .loop) .k) ((c .before .before .before .before .loop) .inv .1) (rw ((c .if1) .left) at ((c .before .equal-rows) .ensures)))
+loop-again c = each-more _ (c .before .before .before .before .loop .k) (c .before .before .before .before .loop .inv) (rw (c .if1 .left) at (c .before .equal-rows .ensures))
 
 returns-2 : tie.Need-returns-2 Inv-loop μ-loop
-returns-2 c = let l = (c .loop-test) .left in λ j h. (c .before .loop) .inv .1 j (omega arith)
+returns-2 c = let l = c .loop-test .left in λ j h. c .before .loop .inv j (omega arith)
 
 pub new-row-spec : {M : Type 1} → statement M
 new-row-spec =

@@ -23,19 +23,19 @@ enum-told-2 c = search needs
 
 returns : tie.Need-returns
 unfolding depthOfRes
-returns c = rw ((c .before .before .before .x) .given .1)
+returns c = rw (c .before .before .before .x .given .1)
 
 returns-2 : tie.Need-returns-2
 unfolding depthOfRes
-returns-2 c = rw ((c .before .before .before .x) .given .1) (let l : length ((c .before .before .before .before .before .args) .t1) ≡ 64 = search needs in let h = (c .if1) .left in sym (List·getD-eq-default ((c .before .before .before .before .before .args) .t1) 0 (omega arith)))
+returns-2 c = rw (c .before .before .before .x .given .1) (let l : length (c .before .before .before .before .before .args .t1) ≡ 64 = search needs in let h = c .if1 .left in sym (List·getD-eq-default (c .before .before .before .before .before .args .t1) 0 (omega arith)))
 
 returns-3 : tie.Need-returns-3
 unfolding depthOfRes
-returns-3 c = rw ((c .enum-told) .given .1)
+returns-3 c = rw (c .enum-told .given .1)
 
 returns-4 : tie.Need-returns-4
 unfolding depthOfRes
-returns-4 c = rw ((c .enum-told2) .given .1)
+returns-4 c = rw (c .enum-told2 .given .1)
 
 pub res-depth-spec : {M : Type 1} → statement M
 res-depth-spec =

@@ -21,13 +21,13 @@ pack-ok-requires-2 : tie.Need-pack-ok-requires-2
 pack-ok-requires-2 c κs = search needs
 
 returns : tie.Need-returns
-returns c = rw ((c .before .before .x) .given .1) ((c .grant-ok) .ensures)
+returns c = rw (c .before .before .x .given .1) (c .grant-ok .ensures)
 
 returns-2 : tie.Need-returns-2
-returns-2 c = rw ((c .before .before .x2) .given .1) ((c .pack-ok) .ensures)
+returns-2 c = rw (c .before .before .x2 .given .1) (c .pack-ok .ensures)
 
 returns-3 : tie.Need-returns-3
-returns-3 c = rw ((c .before .before .x3) .given .1) ((c .pack-ok2) .ensures)
+returns-3 c = rw (c .before .before .x3 .given .1) (c .pack-ok2 .ensures)
 
 pub res-ok-spec : {M : Type 1} → statement M
 res-ok-spec =

@@ -32,7 +32,7 @@ blank-cond-requires : tie.Need-blank-cond-requires Inv-loop μ-loop
 blank-cond-requires c κs = search needs
 
 returns : tie.Need-returns Inv-loop μ-loop
-returns c = λ f. (rw (not-true ((c .before .blank-cond) .result) ((c .if1) .taken)) at ((c .before .blank-cond) .ensures)) (f ((c .before .before .before .before .loop) .j) ((c .before .before .before .before .loop) .inv .0))
+returns c = λ f. (rw (not-true (c .before .blank-cond .result) (c .if1 .taken)) at (c .before .blank-cond .ensures)) (f (c .before .before .before .before .loop .j) (c .before .before .before .before .loop .inv .0))
 
 add-j : tie.Need-add-j Inv-loop μ-loop
 add-j c = search needs
@@ -41,10 +41,10 @@ loop-less : tie.Need-loop-less Inv-loop μ-loop
 loop-less c = search needs
 
 loop-again : tie.Need-loop-again Inv-loop μ-loop
-loop-again c = (search needs, each-more _ ((c .before .before .before .before .loop) .j) ((c .before .before .before .before .loop) .inv .1) (λ h. rw (not-false ((c .before .blank-cond) .result) ((c .if1) .left)) at ((c .before .blank-cond) .ensures)))
+loop-again c = (search needs, each-more _ (c .before .before .before .before .loop .j) (c .before .before .before .before .loop .inv .1) (λ h. rw (not-false (c .before .blank-cond .result) (c .if1 .left)) at (c .before .blank-cond .ensures)))
 
 returns-2 : tie.Need-returns-2 Inv-loop μ-loop
-returns-2 c = let l = (c .loop-test) .left in blank-after ((c .before .before .args) .t1 .conds) ((c .before .before .args) .t1 .count) (search (needs, length-mapped)) (λ k h. (c .before .loop) .inv .1 k (omega arith))
+returns-2 c = let l = c .loop-test .left in blank-after (c .before .before .args .t1 .conds) (c .before .before .args .t1 .count) (search (needs, length-mapped)) (λ k h. c .before .loop .inv .1 k (omega arith))
 
 pub unused-conds-ok-spec : {M : Type 1} → statement M
 unused-conds-ok-spec =

@@ -31,7 +31,7 @@ equal-rows-requires : tie.Need-equal-rows-requires Inv-loop μ-loop
 equal-rows-requires c κs = search needs
 
 returns : tie.Need-returns Inv-loop μ-loop
-returns c = λ f. (rw (not-true ((c .before .equal-rows) .result) ((c .if1) .taken)) at ((c .before .equal-rows) .ensures)) (f ((c .before .before .before .before .loop) .i) ((c .before .before .before .before .loop) .inv .0) ((c .before .before .before .loop-test) .taken) ∙ sym ((c .before .before .before .before .before .blank) .ensures))
+returns c = λ f. (rw (not-true (c .before .equal-rows .result) (c .if1 .taken)) at (c .before .equal-rows .ensures)) (f (c .before .before .before .before .loop .i) (c .before .before .before .before .loop .inv .0) (search needs) ∙ sym (c .before .before .before .before .before .blank .ensures))
 
 add-i : tie.Need-add-i Inv-loop μ-loop
 add-i c = search needs
@@ -40,10 +40,10 @@ loop-less : tie.Need-loop-less Inv-loop μ-loop
 loop-less c = search needs
 
 loop-again : tie.Need-loop-again Inv-loop μ-loop
-loop-again c = (search needs, each-more _ ((c .before .before .before .before .loop) .i) ((c .before .before .before .before .loop) .inv .1) (λ h. (rw (not-false ((c .before .equal-rows) .result) ((c .if1) .left)) at ((c .before .equal-rows) .ensures)) ∙ (c .before .before .before .before .before .blank) .ensures))
+loop-again c = (search needs, each-more _ (c .before .before .before .before .loop .i) (c .before .before .before .before .loop .inv .1) (λ h. (rw (not-false (c .before .equal-rows .result) (c .if1 .left)) at (c .before .equal-rows .ensures)) ∙ c .before .before .before .before .before .blank .ensures))
 
 returns-2 : tie.Need-returns-2 Inv-loop μ-loop
-returns-2 c = let l = (c .loop-test) .left in λ k a b. (c .before .loop) .inv .1 k (omega arith) a
+returns-2 c = let l = c .loop-test .left in λ k a b. c .before .loop .inv .1 k (omega arith) a
 
 pub unused-rows-ok-spec : {M : Type 1} → statement M
 unused-rows-ok-spec =

@@ -1,4 +1,4 @@
-use Prim.Native.Nat.{ℕ, _<_, _≤_, _-_}
+use Prim.Native.Nat.{ℕ, _<_, _-_}
 use lib.ListN.{getD}
 use borrow.Author.Needs.{needs}
 use borrow.Author.Tests.{not-true, not-false}
@@ -10,7 +10,7 @@ use Rattle.form.proofs.used_conds_ok.Statement.{statement}
 use Rattle.form.proofs.used_conds_ok.Tie as tie
 
 abbrev Inv-loop : tie.InvT-loop
-Inv-loop i x n j₀ j = (j ≤ n) × ((k : ℕ) → k < j → CondForm i (x .prins) (x .res) (getD (x .conds) k blankCond))
+Inv-loop i x n j₀ j = (k : ℕ) → k < j → CondForm i (x .prins) (x .res) (getD (x .conds) k blankCond)
 
 abbrev μ-loop : tie.MeasureT-loop
 μ-loop i x n j₀ j = n - j
@@ -19,7 +19,7 @@ cast-n : tie.Need-cast-n Inv-loop μ-loop
 cast-n c = search needs
 
 loop-holds : tie.Need-loop-holds Inv-loop μ-loop
-loop-holds c = (search needs, λ k l. absurd (omega arith))
+loop-holds c = λ k l. absurd (omega arith)
 
 mul-c : tie.Need-mul-c Inv-loop μ-loop
 mul-c c = search needs
@@ -31,7 +31,7 @@ cond-ok-requires : tie.Need-cond-ok-requires Inv-loop μ-loop
 cond-ok-requires c κs = search needs
 
 returns : tie.Need-returns Inv-loop μ-loop
-returns c = λ f. (rw (not-true ((c .before .cond-ok) .result) ((c .if1) .taken)) at ((c .before .cond-ok) .ensures)) (f ((c .before .before .before .before .loop) .j) ((c .before .before .before .loop-test) .taken))
+returns c = λ f. (rw (not-true (c .before .cond-ok .result) (c .if1 .taken)) at (c .before .cond-ok .ensures)) (f (c .before .before .before .before .loop .j) (c .before .before .before .loop-test .taken))
 
 add-j : tie.Need-add-j Inv-loop μ-loop
 add-j c = search needs
@@ -40,10 +40,10 @@ loop-less : tie.Need-loop-less Inv-loop μ-loop
 loop-less c = search needs
 
 loop-again : tie.Need-loop-again Inv-loop μ-loop
-loop-again c = (search needs, each-more _ ((c .before .before .before .before .loop) .j) ((c .before .before .before .before .loop) .inv .1) (rw (not-false ((c .before .cond-ok) .result) ((c .if1) .left)) at ((c .before .cond-ok) .ensures)))
+loop-again c = each-more _ (c .before .before .before .before .loop .j) (c .before .before .before .before .loop .inv) (rw (not-false (c .before .cond-ok .result) (c .if1 .left)) at (c .before .cond-ok .ensures))
 
 returns-2 : tie.Need-returns-2 Inv-loop μ-loop
-returns-2 c = let l = (c .loop-test) .left in λ k h. (c .before .loop) .inv .1 k (omega arith)
+returns-2 c = let l = c .loop-test .left in λ k h. c .before .loop .inv k (omega arith)
 
 pub used-conds-ok-spec : {M : Type 1} → statement M
 used-conds-ok-spec =

@@ -7,6 +7,7 @@ use Rattle.sorts.specs.declared.Res.the-variants.{Issue, Run, Export}
 use Rattle.sorts.specs.declared.Concl.{Concl}
 use Rattle.sorts.specs.declared.Concl.the-variants.{Property, Perm}
 use Rattle.sorts.specs.declared.Cond.{Cond}
+use Rattle.sorts.specs.declared.Row.{Row}
 use Rattle.sorts.specs.Blank.{blankCond}
 use Rattle.rows.specs.Form.{larger}
 
@@ -20,7 +21,11 @@ unfoldable pub depthOfConcl : List ℕ → Concl → ℕ
 depthOfConcl depths (Property k p) = 0
 depthOfConcl depths (Perm p x) = depthOfRes depths x
 
--- the largest of k conditions from place i on
+-- the largest of those that k conditions from place i on hold
 unfoldable pub depthOfConds : List ℕ → List Cond → ℕ → ℕ → ℕ
 depthOfConds depths cs i zero = 0
 depthOfConds depths cs i (suc k) = larger (depthOfConcl depths (getD cs i blankCond .what)) (depthOfConds depths cs (i + 1) k)
+
+-- the depth of the deepest grant that a row holds, or 0 where it holds none
+abbrev pub heldDepth : List ℕ → Row → ℕ
+heldDepth depths x = larger (depthOfConds depths (x .conds) 0 (x .count)) (depthOfConcl depths (x .head))
