@@ -62,25 +62,28 @@ module _ (b : Book) (m s : List ℕ) (f : BookForm b m) (r : Reading) (R : Reads
   -- what the code needs holds
   pub ready : Ready b m r
   ready = record {
-      rows = table-rows (tableOf b) (f .table);
-      next = table-rows (r .table) (R .form (f .table));
-      flags = f .flags;
-      marks = f .marks;
-      fits = subst (λ (x : Found). Rattle.book.specs.inner.Apply.FoundFits x) (sym (R .found (f .table))) (found-fits N (let c = f .table .count in omega (arith, len)) s) }
+    rows = table-rows (tableOf b) (f .table);
+    next = table-rows (r .table) (R .form (f .table));
+    flags = f .flags;
+    marks = f .marks;
+    fits = subst (λ (x : Found). Rattle.book.specs.inner.Apply.FoundFits x) (sym (R .found (f .table))) (found-fits N (let c = f .table .count in omega (arith, len)) s);
+  }
 
   -- flags in form, with one more or one less
   module _ (t : Table) (F : TableForm t) (grows : b .count ≤ t .count) (at v : ℕ) (inside : at < 17 * t .count) (bits : v ≤ 1) where
     set-form : BookForm (flagged t (b .flags) at v) (standing (t .rows) (set (b .flags) at v))
     set-form = record {
-        marks = standing-length (t .rows) (set (b .flags) at v);
-        markBits = standing-bits (t .rows) (set (b .flags) at v);
-        flags = length-set (b .flags) at v ∙ f .flags;
-        flagBits = λ i. bit-at i (ℕ-discrete i at);
-        table = F;
-        unflagged = λ i l. getD-set-other (b .flags) at i v 0 (λ (e : i ≡ at). omega arith) ∙ f .unflagged i (omega arith) }
+      marks = standing-length (t .rows) (set (b .flags) at v);
+      markBits = standing-bits (t .rows) (set (b .flags) at v);
+      flags = length-set (b .flags) at v ∙ f .flags;
+      flagBits = λ i. bit-at i (ℕ-discrete i at);
+      table = F;
+      unflagged = λ i l. getD-set-other (b .flags) at i v 0 (λ (e : i ≡ at). omega arith) ∙ f .unflagged i (omega arith);
+    }
       where
         in-flags : at < length (b .flags)
         in-flags = let c = F .count in let l = f .flags in omega arith
+
         bit-at : (i : ℕ) → Dec (i ≡ at) → getD (set (b .flags) at v) i 0 ≤ 1
         bit-at i (yes e) = let h = ap (λ (n : ℕ). getD (set (b .flags) at v) n 0) e ∙ getD-set-same (b .flags) at v 0 in-flags in omega arith
         bit-at i (no d) = let h = getD-set-other (b .flags) at i v 0 d in let k = f .flagBits i in omega arith
@@ -104,8 +107,8 @@ module _ (b : Book) (m s : List ℕ) (f : BookForm b m) (r : Reading) (R : Reads
 
     -- to set a flag over a table that shows N′, or to take it away
     module _ (t : Table) (F : TableForm t) (N′ : List Grant) (is : rowsOut (t .rows) (t .count) ≡ N′) (ext : Ext N N′)
-      (by : Standing) (known : Known by) (g : Grant) (there : has g N′ ≡ true) (v : Bool) (M′ : State) (numbers : M′ .N ≡ N′)
-      (changed : standsIn M′ by g ≡ v) (others : (by′ : Standing) (h : Grant) → (by′ ≡ by → h ≡ g → ⊥) → standsIn M′ by′ h ≡ standsIn M by′ h) where
+        (by : Standing) (known : Known by) (g : Grant) (there : has g N′ ≡ true) (v : Bool) (M′ : State) (numbers : M′ .N ≡ N′)
+        (changed : standsIn M′ by g ≡ v) (others : (by′ : Standing) (h : Grant) → (by′ ≡ by → h ≡ g → ⊥) → standsIn M′ by′ h ≡ standsIn M by′ h) where
       len′ : t .count ≡ length N′
       len′ = sym (out-length (t .rows) (t .count)) ∙ ap length is
 
@@ -117,21 +120,23 @@ module _ (b : Book) (m s : List ℕ) (f : BookForm b m) (r : Reading) (R : Reads
         where
           l : place g N′ < length N′
           l = has-lt g N′ there
+
           go : (x : Standing) → Known x → placeOf x (place g N′) < 17 * t .count
           go Trusted k = omega (arith, l, len′)
           go (Issued p) k = omega (arith, l, len′)
 
       change-steps : (n : ℕ) → Steps (record { next = M′; says = changes; used = n }) b m (changedTo (flagged t (b .flags) (placeOf by (place g N′)) (bit v)) m n)
-        (standing (t .rows) (set (b .flags) (placeOf by (place g N′)) (bit v)))
+          (standing (t .rows) (set (b .flags) (placeOf by (place g N′)) (bit v)))
       unfolding answerOf marksAfter
       change-steps n = record {
-          answer = refl;
-          used = refl;
-          marks = refl;
-          shows = uniform-shows (uniform-set uni len (f .unflagged) N′ ext distinct′ by known g there v M′ numbers changed others (f .flags)
+        answer = refl;
+        used = refl;
+        marks = refl;
+        shows = uniform-shows (uniform-set uni len (f .unflagged) N′ ext distinct′ by known g there v M′ numbers changed others (f .flags)
             (let c = F .count in omega (arith, len′)) t is);
-          form = set-form t F (let x = ext-length ext in omega (arith, len, len′)) (placeOf by (place g N′)) (bit v) place-in (bit-le v);
-          kept = λ k e. absurd (no-change e) }
+        form = set-form t F (let x = ext-length ext in omega (arith, len, len′)) (placeOf by (place g N′)) (bit v) place-in (bit-le v);
+        kept = λ k e. absurd (no-change e);
+      }
         where
           bit-le : (x : Bool) → bit x ≤ 1
           bit-le true = omega arith
@@ -140,25 +145,25 @@ module _ (b : Book) (m s : List ℕ) (f : BookForm b m) (r : Reading) (R : Reads
     -- to enter
 
     module _ (by : Standing) (known : Known by) (g : Grant) (n : ℕ) (M′ : State) (numbers : M′ .N ≡ number g N)
-      (changed : standsIn M′ by g ≡ true) (others : (by′ : Standing) (h : Grant) → (by′ ≡ by → h ≡ g → ⊥) → standsIn M′ by′ h ≡ standsIn M by′ h)
-      (rows′ : fits (number g N) ≡ true → rowsOut (r .table .rows) (r .table .count) ≡ number g N) where
+        (changed : standsIn M′ by g ≡ true) (others : (by′ : Standing) (h : Grant) → (by′ ≡ by → h ≡ g → ⊥) → standsIn M′ by′ h ≡ standsIn M by′ h)
+        (rows′ : fits (number g N) ≡ true → rowsOut (r .table .rows) (r .table .count) ≡ number g N) where
       enter-steps : (c : Bool) → fits (number g N) ≡ c → Steps (cond c (record { next = M′; says = changes; used = n }) (refuse M 6 n)) b m
-        (appliedTo b m (r .table) (cond c (found.Asks (Enter by (record { 0 = place g (number g N) })) n) (found.Full n)))
-        (marksAppliedTo b m (r .table) (cond c (found.Asks (Enter by (record { 0 = place g (number g N) })) n) (found.Full n)))
+          (appliedTo b m (r .table) (cond c (found.Asks (Enter by (record { 0 = place g (number g N) })) n) (found.Full n)))
+          (marksAppliedTo b m (r .table) (cond c (found.Asks (Enter by (record { 0 = place g (number g N) })) n) (found.Full n)))
       enter-steps true e = change-steps (r .table) (R .form (f .table)) (number g N) (rows′ e) (number-ext g N) by known g (number-has g N) true M′ numbers changed others n
       enter-steps false e = refused-steps 6 n
 
     -- to remove
 
     module _ (by : Standing) (known : Known by) (g : Grant) (n : ℕ) (M′ : State) (numbers : M′ .N ≡ N)
-      (changed : standsIn M′ by g ≡ false) (others : (by′ : Standing) (h : Grant) → (by′ ≡ by → h ≡ g → ⊥) → standsIn M′ by′ h ≡ standsIn M by′ h) where
+        (changed : standsIn M′ by g ≡ false) (others : (by′ : Standing) (h : Grant) → (by′ ≡ by → h ≡ g → ⊥) → standsIn M′ by′ h ≡ standsIn M by′ h) where
       -- the flag of a grant with a number says whether it stands so
       flag-is : has g N ≡ true → getD (b .flags) (placeOf by (place g N)) 0 ≡ bit (standsIn M by g)
       flag-is e = let l = has-lt g N e in uni .flags by (place g N) known l ∙ ap (λ (h : Grant). bit (standsIn M by h)) (place-at g N l)
 
       remove-steps : (c d : Bool) → standsIn M by g ≡ c → has g N ≡ d → Steps (cond c (record { next = M′; says = changes; used = n }) (refuse M 7 n)) b m
-        (appliedTo b m (r .table) (cond d (found.Asks (Remove by (record { 0 = place g N })) n) (found.Unknown n)))
-        (marksAppliedTo b m (r .table) (cond d (found.Asks (Remove by (record { 0 = place g N })) n) (found.Unknown n)))
+          (appliedTo b m (r .table) (cond d (found.Asks (Remove by (record { 0 = place g N })) n) (found.Unknown n)))
+          (marksAppliedTo b m (r .table) (cond d (found.Asks (Remove by (record { 0 = place g N })) n) (found.Unknown n)))
       remove-steps true true e h =
           rw (flag-is h ∙ ap bit e) (change-steps (tableOf b) (f .table) N refl (ext-refl N) by known g h false M′ numbers changed others n)
       remove-steps true false e h = absurd (no-true (sym h ∙ uni .within by g e .0))
@@ -168,22 +173,29 @@ module _ (b : Book) (m s : List ℕ) (f : BookForm b m) (r : Reading) (R : Reads
     -- to query
 
     query-steps : (c : Concl) (n : ℕ) → (fits (numberConcl c N) ≡ true → rowsOut (r .table .rows) (r .table .count) ≡ numberConcl c N) → (d : Bool) → fits (numberConcl c N) ≡ d →
-      Steps (cond d (record { next = record { T = T; L = L; N = numberConcl c N }; says = asks (numberOf (conclOf (numberConcl c N) c)); used = n }) (refuse M 6 n)) b m
-      (appliedTo b m (r .table) (cond d (found.Asks (Query (conclOf (numberConcl c N) c)) n) (found.Full n)))
-      (marksAppliedTo b m (r .table) (cond d (found.Asks (Query (conclOf (numberConcl c N) c)) n) (found.Full n)))
+        Steps (cond d (record { next = record { T = T; L = L; N = numberConcl c N }; says = asks (numberOf (conclOf (numberConcl c N) c)); used = n }) (refuse M 6 n)) b m
+        (appliedTo b m (r .table) (cond d (found.Asks (Query (conclOf (numberConcl c N) c)) n) (found.Full n)))
+        (marksAppliedTo b m (r .table) (cond d (found.Asks (Query (conclOf (numberConcl c N) c)) n) (found.Full n)))
     unfolding answerOf marksAfter
     query-steps c n rows′ true e = record {
-        answer = refl;
-        used = refl;
-        marks = refl;
-        shows = uniform-shows (uniform-more uni len (f .unflagged) (numberConcl c N) (concl-more c N) (subst Distinct (rows′ e) (form-shown (r .table) F .distinct)) (r .table) (rows′ e));
-        form = record {
-          marks = f .marks; markBits = f .markBits; flags = f .flags; flagBits = f .flagBits; table = F;
-          unflagged = λ i l. f .unflagged i (omega (arith, len, more)) };
-        kept = λ k e. absurd (no-asks e) }
+      answer = refl;
+      used = refl;
+      marks = refl;
+      shows = uniform-shows (uniform-more uni len (f .unflagged) (numberConcl c N) (concl-more c N) (subst Distinct (rows′ e) (form-shown (r .table) F .distinct)) (r .table) (rows′ e));
+      form = record {
+        marks = f .marks;
+        markBits = f .markBits;
+        flags = f .flags;
+        flagBits = f .flagBits;
+        table = F;
+        unflagged = λ i l. f .unflagged i (omega (arith, len, more));
+      };
+      kept = λ k e. absurd (no-asks e);
+    }
       where
         F : TableForm (r .table)
         F = R .form (f .table)
+
         more : length N ≤ r .table .count
         more = let x = ext-length (concl-more c N) in let y = sym (out-length (r .table .rows) (r .table .count)) ∙ ap length (rows′ e) in omega arith
     query-steps c n rows′ false e = refused-steps 6 n
@@ -200,12 +212,12 @@ module _ (b : Book) (m s : List ℕ) (f : BookForm b m) (r : Reading) (R : Reads
         d (ap Issued (prin-is q (record { 0 = p }) (ap (λ (x : Licence). x .issuer) e))) (ap (λ (x : Licence). x .what) e)
 
     trust-others : (g : Grant) (M′ : State) → ((h : Grant) → (h ≡ g → ⊥) → has h (M′ .T) ≡ has h T) → M′ .L ≡ L →
-      (by′ : Standing) (h : Grant) → (by′ ≡ Trusted → h ≡ g → ⊥) → standsIn M′ by′ h ≡ standsIn M by′ h
+        (by′ : Standing) (h : Grant) → (by′ ≡ Trusted → h ≡ g → ⊥) → standsIn M′ by′ h ≡ standsIn M by′ h
     trust-others g M′ o same Trusted h d = o h (λ e. d refl e)
     trust-others g M′ o same (Issued q) h d = ap (hasLicence (record { issuer = q .0; what = h })) same
 
     licence-others : (p : ℕ) (g : Grant) (M′ : State) → M′ .T ≡ T → ((x : Licence) → (x ≡ record { issuer = p; what = g } → ⊥) → hasLicence x (M′ .L) ≡ hasLicence x L) →
-      (by′ : Standing) (h : Grant) → (by′ ≡ Issued (record { 0 = p }) → h ≡ g → ⊥) → standsIn M′ by′ h ≡ standsIn M by′ h
+        (by′ : Standing) (h : Grant) → (by′ ≡ Issued (record { 0 = p }) → h ≡ g → ⊥) → standsIn M′ by′ h ≡ standsIn M by′ h
     unfolding licence
     licence-others p g M′ same o Trusted h d = ap (has h) same
     licence-others p g M′ same o (Issued q) h d = o (record { issuer = q .0; what = h }) (licence-apart p q g h d)
@@ -219,7 +231,7 @@ module _ (b : Book) (m s : List ℕ) (f : BookForm b m) (r : Reading) (R : Reads
     issuer-wd {p} {g} {n} e = record-exact s (WD p g) n e .2 .0
 
     record-steps : (q : Record) (n : ℕ) → readRecord s ≡ got q n → Steps (act M q n) b m
-      (appliedTo b m (r .table) (foundOf N (got q n))) (marksAppliedTo b m (r .table) (foundOf N (got q n)))
+        (appliedTo b m (r .table) (foundOf N (got q n))) (marksAppliedTo b m (r .table) (foundOf N (got q n)))
     unfolding act foundOf numberedBy
     record-steps (TG g) n e =
         enter-steps Trusted tt g n (record { T = add g T; L = L; N = number g N }) refl (add-has g T) (trust-others g (record { T = add g T; L = L; N = number g N }) (λ h d. add-other g h T d) refl)

@@ -117,18 +117,18 @@ concl-closed (perm p (export n)) N a e = (prin-closed p (a .0), pack-closed n (a
 
 module _ (N : List Grant) (small : length N ≤ 64) where
   entering-fits : (by : Standing) → Known by → (g : Grant) (n : ℕ) (b : Bool) → fits (number g N) ≡ b →
-    FoundFits (cond b (found.Asks (Enter by (record { 0 = place g (number g N) })) n) (found.Full n))
+      FoundFits (cond b (found.Asks (Enter by (record { 0 = place g (number g N) })) n) (found.Full n))
   entering-fits by k g n true e =
       place-fits by (place g (number g N)) k (let l = has-lt g (number g N) (number-has g N) in let s = fits-small (number g N) e in omega arith)
   entering-fits by k g n false e = tt
 
   removing-fits : (by : Standing) → Known by → (g : Grant) (n : ℕ) (b : Bool) → has g N ≡ b →
-    FoundFits (cond b (found.Asks (Remove by (record { 0 = place g N })) n) (found.Unknown n))
+      FoundFits (cond b (found.Asks (Remove by (record { 0 = place g N })) n) (found.Unknown n))
   removing-fits by k g n true e = place-fits by (place g N) k (let l = has-lt g N e in omega arith)
   removing-fits by k g n false e = tt
 
   query-fits : (c : Concl) (n : ℕ) → AllowedConcl 0 0 c → (b : Bool) → fits (numberConcl c N) ≡ b →
-    FoundFits (cond b (found.Asks (Query (conclOf (numberConcl c N) c)) n) (found.Full n))
+      FoundFits (cond b (found.Asks (Query (conclOf (numberConcl c N) c)) n) (found.Full n))
   query-fits c n a true e = let l = number-lt (conclOf (numberConcl c N) c) (concl-closed c N a e) in omega arith
   query-fits c n a false e = tt
 

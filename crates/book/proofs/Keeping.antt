@@ -17,7 +17,8 @@ called-unformed b m s a d e = record { unformed = λ _. (e, refl); formed = λ f
 
 pub called-formed : (b : Book) (m s : List ℕ) (r : Reading) (a : Answered) (n : List ℕ) → BookForm b m → Reads s (tableOf b) r → a ≡ applied b m r → n ≡ marksApplied b m r → Called b m s a n
 called-formed b m s r a n f R e h = record {
-    unformed = λ d. absurd (d f);
-    formed = λ _ M sh.
-        subst (λ (x : Answered). Follows M b m s x n) (sym e)
-        (subst (λ (x : List ℕ). Follows M b m s (applied b m r) x) (sym h) (follows b m s f r R M sh)) }
+  unformed = λ d. absurd (d f);
+  formed = λ _ M sh.
+      subst (λ (x : Answered). Follows M b m s x n) (sym e)
+      (subst (λ (x : List ℕ). Follows M b m s (applied b m r) x) (sym h) (follows b m s f r R M sh));
+}

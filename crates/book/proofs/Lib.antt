@@ -1,9 +1,13 @@
+pub mod Balance
+pub mod ClosedBook
 pub mod Decided
 pub mod Fits
 pub mod Following
 pub mod Forms
 pub mod Keeping
 pub mod Loops
+pub mod Moving
 pub mod Net
+pub mod RowBack
 pub mod Sets
 pub mod Showing

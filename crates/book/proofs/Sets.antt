@@ -151,3 +151,10 @@ withoutLicence-same x L = ap (hasLicence x) (licence-out x L) ∙ licence-member
 pub withoutLicence-other : (x z : Licence) (L : List Licence) → (z ≡ x → ⊥) → hasLicence z (withoutLicence x L) ≡ hasLicence z L
 withoutLicence-other x z L d =
     ap (hasLicence z) (licence-out x L) ∙ licence-member z (take-out sameLicence licence-eq licence-refl x L) ∙ out-other sameLicence licence-eq licence-refl x z L d ∙ sym (licence-member z L)
+
+pub licence-dec : (x y : Licence) → Dec (x ≡ y)
+licence-dec x y = go (sameLicence x y) refl
+  where
+    go : (b : Bool) → sameLicence x y ≡ b → Dec (x ≡ y)
+    go true e = yes (licence-eq x y e)
+    go false e = no (λ d. no-true (sym e ∙ ap (sameLicence x) (sym d) ∙ licence-refl x))

@@ -53,11 +53,12 @@ shows-uniform {b} {M} s = record { rows = s .rows; flags = at; within = in-n }
 
 pub uniform-shows : {b : Book} {M : State} → Uniform b M → Shows b M
 uniform-shows {b} {M} u = record {
-    rows = u .rows;
-    trusted = λ g l. ap (λ (n : ℕ). getD (b .flags) n 0) {x = 17 * g + 0} {y = 17 * g} (omega arith) ∙ u .flags Trusted g tt l;
-    issued = λ g p l k. u .flags (Issued (record { 0 = p })) g k l;
-    trustedIn = λ g e. u .within Trusted g e .0;
-    issuedIn = λ x e. u .within (Issued (record { 0 = x .issuer })) (x .what) e }
+  rows = u .rows;
+  trusted = λ g l. ap (λ (n : ℕ). getD (b .flags) n 0) {x = 17 * g + 0} {y = 17 * g} (omega arith) ∙ u .flags Trusted g tt l;
+  issued = λ g p l k. u .flags (Issued (record { 0 = p })) g k l;
+  trustedIn = λ g e. u .within Trusted g e .0;
+  issuedIn = λ x e. u .within (Issued (record { 0 = x .issuer })) (x .what) e;
+}
 
 -- the place of a flag tells the row and how it stands
 
@@ -115,7 +116,7 @@ ext-at {N} {N′} x i l = ap (λ (M : List Grant). getD M i noGrant) (x .is) ∙
 -- A book whose flags past the count are 0, where more grants get numbers.
 
 module _ {b : Book} {M : State} (u : Uniform b M) (count : b .count ≡ length (M .N)) (unflagged : (i : ℕ) → 17 * b .count ≤ i → getD (b .flags) i 0 ≡ 0)
-  (N′ : List Grant) (ext : Ext (M .N) N′) (distinct : Distinct N′) where
+    (N′ : List Grant) (ext : Ext (M .N) N′) (distinct : Distinct N′) where
   -- a grant that is new stands in no way
   new-stands : (by : Standing) (j : ℕ) → j < length N′ → length (M .N) ≤ j → (c : Bool) → standsIn M by (getD N′ j noGrant) ≡ c → standsIn M by (getD N′ j noGrant) ≡ false
   new-stands by j l h false e = e
@@ -149,13 +150,14 @@ module _ {b : Book} {M : State} (u : Uniform b M) (count : b .count ≡ length (
 
   pub uniform-more : (t : Table) → rowsOut (t .rows) (t .count) ≡ N′ → Uniform (record { rows = t .rows; count = t .count; flags = b .flags }) (record { T = M .T; L = M .L; N = N′ })
   uniform-more t r = record {
-      rows = r;
-      flags = λ by i k l. old-flags by i k l ∙ ap bit (sym (more-stands by (getD N′ i noGrant)));
-      within = λ by g e. let a = u .within by g (sym (more-stands by g) ∙ e) in (has-ext g ext (a .0), a .1) }
+    rows = r;
+    flags = λ by i k l. old-flags by i k l ∙ ap bit (sym (more-stands by (getD N′ i noGrant)));
+    within = λ by g e. let a = u .within by g (sym (more-stands by g) ∙ e) in (has-ext g ext (a .0), a .1);
+  }
 
   -- An entry or a removal: grant g of N′ stands so, or no longer, and nothing else changes.
   module _ (by : Standing) (known : Known by) (g : Grant) (there : has g N′ ≡ true) (v : Bool) (M′ : State) (numbers : M′ .N ≡ N′)
-    (changed : standsIn M′ by g ≡ v) (others : (by′ : Standing) (h : Grant) → (by′ ≡ by → h ≡ g → ⊥) → standsIn M′ by′ h ≡ standsIn M by′ h) where
+      (changed : standsIn M′ by g ≡ v) (others : (by′ : Standing) (h : Grant) → (by′ ≡ by → h ≡ g → ⊥) → standsIn M′ by′ h ≡ standsIn M by′ h) where
     abbrev at : ℕ
     at = place g N′
 
@@ -198,6 +200,7 @@ module _ {b : Book} {M : State} (u : Uniform b M) (count : b .count ≡ length (
 
     pub uniform-set : length (b .flags) ≡ 1088 → length N′ ≤ 64 → (t : Table) → rowsOut (t .rows) (t .count) ≡ N′ → Uniform (flagged t (b .flags) (placeOf by (place g N′)) (bit v)) M′
     uniform-set len small t r = record {
-        rows = r ∙ sym numbers;
-        flags = λ by′ i k l. subst (λ (X : List Grant). i < length X → getD flags′ (placeOf by′ i) 0 ≡ bit (standsIn M′ by′ (getD X i noGrant))) (sym numbers) (new-flags len small by′ i k) l;
-        within = λ by′ h e. subst (λ (X : List Grant). (has h X ≡ true) × Known by′) (sym numbers) (new-within by′ h e) }
+      rows = r ∙ sym numbers;
+      flags = λ by′ i k l. subst (λ (X : List Grant). i < length X → getD flags′ (placeOf by′ i) 0 ≡ bit (standsIn M′ by′ (getD X i noGrant))) (sym numbers) (new-flags len small by′ i k) l;
+      within = λ by′ h e. subst (λ (X : List Grant). (has h X ≡ true) × Known by′) (sym numbers) (new-within by′ h e);
+    }

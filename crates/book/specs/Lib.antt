@@ -5,3 +5,4 @@ pub mod Books
 pub mod Calls
 pub mod Chains
 pub mod inner
+pub mod Demands

@@ -1,0 +1,74 @@
+-- What is demanded of every call and of every list of calls from a fresh book.
+use Prim.Native.Nat.{ℕ, _+_}
+use mathlib.Core.Path.{_≡_}
+use mathlib.Core.List.{List, [], _∷_}
+use mathlib.Core.Logic.{_↔_}
+use lib.ListN.{getD}
+use Rattle.reader.specs.Bytes.{Outcome, got, refused}
+use Rattle.reader.specs.Records.{Record, TG, ST, LI, WD, QU, readRecord}
+use Rattle.rules.specs.Standing.{In}
+use Rattle.book.specs.declared.Book.{Book}
+use Rattle.book.specs.declared.Answer.{Answer}
+use Rattle.book.specs.declared.Answer.the-variants.{Permitted, NotPermitted}
+use Rattle.book.specs.declared.Answered.{Answered}
+use Rattle.book.specs.Machine.{State, asks, start, step}
+use Rattle.book.specs.Closed.{ClosedSet}
+use Rattle.book.specs.Counts.{gains, ones}
+use Rattle.book.specs.Books.{BookForm, Shows}
+use Rattle.book.specs.Calls.{answerOf}
+use Rattle.book.specs.Chains.{Call, records, runs, gainedBy, lostBy, allGains, allLosses}
+
+-- A statement stands for the machine when it is in every closed set.
+abbrev pub Stands : State → ℕ → Type 1
+Stands M n = (S : ℕ → Type 0) → ClosedSet M S → S n
+
+-- Some closed set, given by a list of marks, lacks it.
+abbrev pub Lacking : State → ℕ → Type 0
+Lacking M n = (t : List ℕ) × ClosedSet M (In t) × (In t n → ⊥)
+
+-- DEMAND 2, of a query that asks for the conclusion c and was answered a, where the machine is then in the state M: "permitted
+-- exactly when each closed set contains the conclusion, not permitted exactly when some closed set lacks it".
+pub record Demand2 (M : State) (c : ℕ) (a : Answer) : Type 1 where
+  pub permitted : (a ≡ Permitted) ↔ Stands M c
+  pub notPermitted : (a ≡ NotPermitted) ↔ Lacking M c
+
+-- "Each call was accepted where the machine accepted its record, and refused with the machine's number where it refused", with
+-- the bytes used.
+unfoldable pub Agrees : State → List Call → Type 0
+Agrees M [] = Unit {0}
+Agrees M (c ∷ cs) =
+    (c .gave .answer ≡ answerOf (step M (c .record′) .says) (c .marks) (c .left)) × (c .gave .used ≡ step M (c .record′) .used) ×
+    Agrees (step M (c .record′) .next) cs
+
+-- A call that lost no mark and reports no loss; one that gained none and reports no gain.
+abbrev pub NoLoss : Call → Type 0
+NoLoss c = (lostBy (c .gave .answer) ≡ 0) × (gains (c .left) (c .marks) ≡ 0)
+
+abbrev pub NoGain : Call → Type 0
+NoGain c = (gainedBy (c .gave .answer) ≡ 0) × (gains (c .marks) (c .left) ≡ 0)
+
+-- "no enter or issue loses, no strike or withdrawal gains", whether accepted or refused.
+abbrev pub OneWay : Outcome Record → Call → Type 0
+OneWay (got (TG g) n) c = NoLoss c
+OneWay (got (ST g) n) c = NoGain c
+OneWay (got (LI p g) n) c = NoLoss c
+OneWay (got (WD p g) n) c = NoGain c
+OneWay (got (QU e) n) c = Unit {0}
+OneWay (refused k) c = Unit {0}
+
+unfoldable pub AllOneWay : List Call → Type 0
+AllOneWay [] = Unit {0}
+AllOneWay (c ∷ cs) = OneWay (readRecord (c .record′)) c × AllOneWay cs
+
+-- DEMAND 3, of a list of calls that ended in the book b with marks m, M the state of the machine that was fed their records:
+-- "A statement .. has mark 1 exactly when it is in every set closed under the three rules with T as the trusted grants, L as
+-- the licences, and a grant's place in N, from 0, as its number. The rows below the count, written out, are N in order, and the
+-- flags show T and L. Each call was accepted where the machine accepted its record, and refused with the machine's number
+-- where it refused"; "gains less losses equal the marks standing; no enter or issue loses, no strike or withdrawal gains".
+pub record Demand3 (cs : List Call) (b : Book) (m : List ℕ) : Type 1 where
+  pub marks : (n : ℕ) → (getD m n 0 ≡ 1) ↔ Stands (runs start (records cs)) n
+  pub form : BookForm b m
+  pub shows : Shows b (runs start (records cs))
+  pub answers : Agrees start cs
+  pub sums : allGains cs ≡ allLosses cs + ones m
+  pub oneWay : AllOneWay cs

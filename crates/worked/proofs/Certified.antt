@@ -1,0 +1,284 @@
+-- What stands, given by a short list of its statements, each in front of those that it follows from: computed tests, and what
+-- they show.
+use mathlib.Core.Path.{_≡_, refl, sym, subst, ap, _∙_}
+use mathlib.Core.Bool.{Bool, true, false, not}
+use mathlib.Core.List.{List, [], _∷_}
+use mathlib.Core.Logic.{_⊎_, inl, inr, ⊎-elim}
+use Prim.Native.Nat.{ℕ, zero, suc, _<_}
+use native.Mathlib.Nat.{not-suc-le-zero, le-of-suc-le-suc}
+use native.Mathlib.Omega.{arith}
+use lib.Dec.{T, eqb, ltb, eqb→eq, eqb-refl, ltb→lt, T-not}
+use lib.ListN.{length, getD, set, length-set}
+use lib.Seq.{getD-set-same}
+use Rattle.sorts.specs.declared.Row.{Row}
+use Rattle.rules.specs.Rules.{Closed}
+use Rattle.rules.specs.Standing.{All, Some, Rule, ClosedRules, In, Bits, Within, saturation, ground, blank, standing}
+use Rattle.rules.proofs.Lists.{met-map}
+use Rattle.rules.proofs.Saturation.{in-set, in-set-cases, bits-set, same-marks, sat-length, sat-bits, sat-least, sat-closed}
+use Rattle.rules.proofs.Ground.{closed-ground}
+use Rattle.rules.proofs.Standing.{blank-length, blank-bits, blank-none}
+use Rattle.worked.specs.Worked.{ones}
+
+-- Tests joined.
+
+abbrev pub both : Bool → Bool → Bool
+both true b = b
+both false b = false
+
+abbrev pub or : Bool → Bool → Bool
+or true b = true
+or false b = b
+
+abbrev pub imp : Bool → Bool → Bool
+imp true b = b
+imp false b = true
+
+pub left : (a b : Bool) → T (both a b) → T a
+left true b t = tt
+left false b t = t
+
+pub right : (a b : Bool) → T (both a b) → T b
+right true b t = t
+right false b t = absurd t
+
+join : (a b : Bool) → T a → T b → T (both a b)
+join true b t u = u
+join false b t u = absurd t
+
+or-cases : (a b : Bool) → T (or a b) → T a ⊎ T b
+or-cases true b t = inl tt
+or-cases false b t = inr t
+
+or-left : (a b : Bool) → T a → T (or a b)
+or-left true b t = tt
+or-left false b t = absurd t
+
+or-right : (a b : Bool) → T b → T (or a b)
+or-right true b t = tt
+or-right false b t = t
+
+modus : (a b : Bool) → T (imp a b) → T a → T b
+modus true b t u = t
+modus false b t u = absurd u
+
+-- The tests. What a `let` binds is computed only where it is read.
+
+-- statement n is listed
+abbrev pub memb : ℕ → List ℕ → Bool
+memb n [] = false
+memb n (m ∷ ns) = let later = memb n ns in or (eqb n m) later
+
+abbrev pub Listed : List ℕ → ℕ → Type 0
+Listed ns n = T (memb n ns)
+
+-- some statement of ks is listed
+abbrev pub anyb : List ℕ → List ℕ → Bool
+anyb [] ns = false
+anyb (k ∷ ks) ns = or (memb k ns) (anyb ks ns)
+
+-- of each list some statement is listed
+abbrev pub metb : List (List ℕ) → List ℕ → Bool
+metb [] ns = true
+metb (ks ∷ kss) ns = both (anyb ks ns) (metb kss ns)
+
+-- each rule gives a statement
+abbrev pub withinb : List Rule → Bool
+withinb [] = true
+withinb (r ∷ rs) = both (ltb (r .gives) 39168) (withinb rs)
+
+-- what a rule gives is listed where its needs are
+abbrev pub closedb : List Rule → List ℕ → Bool
+closedb [] ns = true
+closedb (r ∷ rs) ns = let listed = memb (r .gives) ns in both (imp (metb (r .needs) ns) listed) (closedb rs ns)
+
+-- some rule gives n from what is listed
+abbrev pub givenb : List Rule → List ℕ → ℕ → Bool
+givenb [] ns n = false
+givenb (r ∷ rs) ns n = let met = metb (r .needs) ns in let later = givenb rs ns n in or (both (eqb n (r .gives)) met) later
+
+-- each follows from those behind it in the list, is none of them, and is a statement
+abbrev pub orderb : List Rule → List ℕ → Bool
+orderb rs [] = true
+orderb rs (n ∷ ns) = both (givenb rs ns n) (both (not (memb n ns)) (both (ltb n 39168) (orderb rs ns)))
+
+abbrev pub test : List Rule → List ℕ → Bool
+test rs ns = both (withinb rs) (both (closedb rs ns) (orderb rs ns))
+
+-- What each test shows.
+
+any-of : (ks ns : List ℕ) → T (anyb ks ns) → Some (Listed ns) ks
+any-of [] ns t = t
+any-of (k ∷ ks) ns t = ⊎-elim (λ u. inl u) (λ u. inr (any-of ks ns u)) (or-cases (memb k ns) (anyb ks ns) t)
+
+of-any : (ks ns : List ℕ) → Some (Listed ns) ks → T (anyb ks ns)
+of-any [] ns h = h
+of-any (k ∷ ks) ns (inl h) = or-left (memb k ns) (anyb ks ns) h
+of-any (k ∷ ks) ns (inr h) = or-right (memb k ns) (anyb ks ns) (of-any ks ns h)
+
+met-of : (kss : List (List ℕ)) (ns : List ℕ) → T (metb kss ns) → All (Some (Listed ns)) kss
+met-of [] ns t = tt
+met-of (ks ∷ kss) ns t = (any-of ks ns (left (anyb ks ns) (metb kss ns) t), met-of kss ns (right (anyb ks ns) (metb kss ns) t))
+
+of-met : (kss : List (List ℕ)) (ns : List ℕ) → All (Some (Listed ns)) kss → T (metb kss ns)
+of-met [] ns h = tt
+of-met (ks ∷ kss) ns h = join (anyb ks ns) (metb kss ns) (of-any ks ns (h .0)) (of-met kss ns (h .1))
+
+within-of : (rs : List Rule) → T (withinb rs) → Within 39168 rs
+within-of [] t = tt
+within-of (r ∷ rs) t = (ltb→lt (r .gives) 39168 (left (ltb (r .gives) 39168) (withinb rs) t), within-of rs (right (ltb (r .gives) 39168) (withinb rs) t))
+
+closed-of : (rs : List Rule) (ns : List ℕ) → T (closedb rs ns) → ClosedRules rs (Listed ns)
+closed-of [] ns t = tt
+closed-of (r ∷ rs) ns t =
+    let a = imp (metb (r .needs) ns) (memb (r .gives) ns) in (
+      λ h. modus (metb (r .needs) ns) (memb (r .gives) ns) (left a (closedb rs ns) t) (of-met (r .needs) ns h),
+      closed-of rs ns (right a (closedb rs ns) t),
+    )
+
+given-of : (S : ℕ → Type 0) (rs : List Rule) (ns : List ℕ) (n : ℕ) → ClosedRules rs S → ((k : ℕ) → Listed ns k → S k) → T (givenb rs ns n) → S n
+given-of S [] ns n c f t = absurd t
+given-of S (r ∷ rs) ns n c f t =
+    ⊎-elim
+    (λ u. subst S (sym (eqb→eq n (r .gives) (left (eqb n (r .gives)) (metb (r .needs) ns) u)))
+    (c .0 (met-map (Listed ns) S (r .needs) f (met-of (r .needs) ns (right (eqb n (r .gives)) (metb (r .needs) ns) u)))))
+    (λ u. given-of S rs ns n (c .1) f u)
+    (or-cases (both (eqb n (r .gives)) (metb (r .needs) ns)) (givenb rs ns n) t)
+
+record First (rs : List Rule) (n : ℕ) (ns : List ℕ) : Type 0 where
+  given : T (givenb rs ns n)
+  new : Listed ns n → ⊥
+  small : n < 39168
+  rest : T (orderb rs ns)
+
+first : (rs : List Rule) (n : ℕ) (ns : List ℕ) → T (orderb rs (n ∷ ns)) → First rs n ns
+first rs n ns t =
+    let c = both (ltb n 39168) (orderb rs ns) in
+    let b = both (not (memb n ns)) c in
+    let u : T b = right (givenb rs ns n) b t in
+    let v : T c = right (not (memb n ns)) c u in
+    record {
+      given = left (givenb rs ns n) b t;
+      new = T-not (memb n ns) (left (not (memb n ns)) c u);
+      small = ltb→lt n 39168 (left (ltb n 39168) (orderb rs ns) v);
+      rest = right (ltb n 39168) (orderb rs ns) v;
+    }
+
+order-of : (S : ℕ → Type 0) (rs : List Rule) (ns : List ℕ) → ClosedRules rs S → T (orderb rs ns) → (n : ℕ) → Listed ns n → S n
+order-of S rs [] c t n h = absurd h
+order-of S rs (m ∷ ns) c t n h =
+    let p = first rs m ns t in
+    let below = order-of S rs ns c (p .rest) in
+    ⊎-elim (λ u. subst S (sym (eqb→eq n m u)) (given-of S rs ns m c below (p .given))) (λ u. below n u) (or-cases (eqb n m) (memb n ns) h)
+
+-- The marks with the listed statements set.
+
+abbrev pub marksOf : List ℕ → List ℕ
+marksOf [] = blank
+marksOf (n ∷ ns) = set (marksOf ns) n 1
+
+pub marks-length : (ns : List ℕ) → length (marksOf ns) ≡ 39168
+marks-length [] = blank-length
+marks-length (n ∷ ns) = length-set (marksOf ns) n 1 ∙ marks-length ns
+
+pub marks-bits : (ns : List ℕ) → Bits (marksOf ns)
+marks-bits [] k = blank-bits k
+marks-bits (n ∷ ns) k = bits-set (marksOf ns) n k (marks-bits ns k)
+
+pub blank-zero : (n : ℕ) → getD blank n 0 ≡ 0
+blank-zero n = omega (arith, blank-bits n, blank-none n)
+
+pub marks-listed : (ns : List ℕ) (n : ℕ) → In (marksOf ns) n → Listed ns n
+marks-listed [] n h = absurd (blank-none n h)
+marks-listed (m ∷ ns) n h =
+    ⊎-elim
+    (λ (e : n ≡ m). or-left (eqb n m) (memb n ns) (subst (λ (k : ℕ). T (eqb n k)) e (eqb-refl n)))
+    (λ u. or-right (eqb n m) (memb n ns) (marks-listed ns n u))
+    (in-set-cases (marksOf ns) m n h)
+
+-- Where a statement is put in front: it is a mark, and it was not set.
+pub record Added (n : ℕ) (ns : List ℕ) : Type 0 where
+  pub small : n < length (marksOf ns)
+  pub unset : getD (marksOf ns) n 0 ≡ 0
+
+pub added : (rs : List Rule) (n : ℕ) (ns : List ℕ) → T (orderb rs (n ∷ ns)) → Added n ns × T (orderb rs ns)
+added rs n ns t =
+    let p = first rs n ns t in
+    let absent : In (marksOf ns) n → ⊥ = λ h. p .new (marks-listed ns n h) in
+    (record { small = omega (arith, marks-length ns, p .small); unset = omega (arith, marks-bits ns n, absent) }, p .rest)
+
+pub listed-marks : (rs : List Rule) (ns : List ℕ) → T (orderb rs ns) → (n : ℕ) → Listed ns n → In (marksOf ns) n
+listed-marks rs [] t n h = absurd h
+listed-marks rs (m ∷ ns) t n h =
+    let p = added rs m ns t in
+    ⊎-elim
+    (λ u. subst (λ (k : ℕ). In (set (marksOf ns) m 1) k) (sym (eqb→eq n m u)) (getD-set-same (marksOf ns) m 1 0 (p .0 .small)))
+    (λ u. in-set (marksOf ns) m n (listed-marks rs ns (p .1) n u))
+    (or-cases (eqb n m) (memb n ns) h)
+
+-- As many marks as the list is long.
+
+ones-set : (m : List ℕ) (i : ℕ) → i < length m → getD m i 0 ≡ 0 → ones (set m i 1) ≡ suc (ones m)
+ones-set [] i l e = absurd (not-suc-le-zero l)
+ones-set (zero ∷ m) zero l e = refl
+ones-set (suc b ∷ m) zero l e = omega arith
+ones-set (zero ∷ m) (suc i) l e = ones-set m i (le-of-suc-le-suc l) e
+ones-set (suc b ∷ m) (suc i) l e = ap suc (ones-set m i (le-of-suc-le-suc l) e)
+
+ones-none : (m : List ℕ) → ((n : ℕ) → getD m n 0 ≡ 0) → ones m ≡ 0
+ones-none [] f = refl
+ones-none (zero ∷ m) f = ones-none m (λ n. f (suc n))
+ones-none (suc b ∷ m) f = omega (arith, f 0)
+
+ones-marks : (rs : List Rule) (ns : List ℕ) → T (orderb rs ns) → ones (marksOf ns) ≡ length ns
+ones-marks rs [] t = ones-none blank blank-zero
+ones-marks rs (n ∷ ns) t =
+    let p = added rs n ns t in
+    ones-set (marksOf ns) n (p .0 .small) (p .0 .unset) ∙ ap suc (ones-marks rs ns (p .1))
+
+-- Where the rules of rows and flags pass the test, the listed statements are those that stand.
+module _ (rows : List Row) (flags ns : List ℕ) (t : T (test (ground rows flags) ns)) where
+  rest : T (both (closedb (ground rows flags) ns) (orderb (ground rows flags) ns))
+  rest = right (withinb (ground rows flags)) (both (closedb (ground rows flags) ns) (orderb (ground rows flags) ns)) t
+
+  pub order : T (orderb (ground rows flags) ns)
+  order = right (closedb (ground rows flags) ns) (orderb (ground rows flags) ns) rest
+
+  within : Within (length blank) (ground rows flags)
+  within =
+      subst (λ (n : ℕ). Within n (ground rows flags)) (sym blank-length)
+      (within-of (ground rows flags) (left (withinb (ground rows flags)) (both (closedb (ground rows flags) ns) (orderb (ground rows flags) ns)) t))
+
+  least : (n : ℕ) → In (standing rows flags) n → Listed ns n
+  unfolding standing
+  least n h =
+      sat-least (ground rows flags) blank (Listed ns)
+      (closed-of (ground rows flags) ns (left (closedb (ground rows flags) ns) (orderb (ground rows flags) ns) rest))
+      (λ k e. absurd (blank-none k e)) n h
+
+  closed-rules : ClosedRules (ground rows flags) (In (standing rows flags))
+  unfolding standing
+  closed-rules = sat-closed (ground rows flags) blank blank-bits within
+
+  -- a listed statement is in every closed set
+  pub present : (n : ℕ) → Listed ns n → (S : ℕ → Type 0) → Closed rows flags S → S n
+  present n h S c = order-of S (ground rows flags) ns (closed-ground rows flags S .0 c) order n h
+
+  -- what stands is closed, and has no statement that is not listed
+  pub closed : Closed rows flags (In (standing rows flags))
+  closed = closed-ground rows flags (In (standing rows flags)) .1 closed-rules
+
+  pub absent : (n : ℕ) → T (not (memb n ns)) → In (standing rows flags) n → ⊥
+  absent n u h = T-not (memb n ns) u (least n h)
+
+  pub whole : standing rows flags ≡ marksOf ns
+  unfolding standing
+  whole =
+      same-marks (saturation (ground rows flags) blank) (marksOf ns)
+      (sat-length (ground rows flags) blank ∙ blank-length ∙ sym (marks-length ns))
+      (sat-bits (ground rows flags) blank blank-bits)
+      (marks-bits ns)
+      (λ n h. listed-marks (ground rows flags) ns order n (least n h))
+      (λ n h. order-of (In (saturation (ground rows flags) blank)) (ground rows flags) ns closed-rules order n (marks-listed ns n h))
+
+  pub counted : ones (standing rows flags) ≡ length ns
+  counted = ap ones whole ∙ ones-marks (ground rows flags) ns order
