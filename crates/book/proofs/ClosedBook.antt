@@ -52,7 +52,7 @@ closed-fewer row row′ Lic Lic′ Tr Tr′ S lic tr c = record {
     met : (g x y z : ℕ) → row g ≡ row′ g → Met S (row′ g) x y z → Met S (row g) x y z
     met g x y z e h = subst (λ (r : Row). Met S r x y z) (sym e) h
 
-bit-set : (c : Bool) → (bit c ≡ 0 → ⊥) → c ≡ true
+pub bit-set : (c : Bool) → (bit c ≡ 0 → ⊥) → c ≡ true
 bit-set true d = refl
 bit-set false d = absurd (d refl)
 
@@ -61,7 +61,7 @@ module _ (b : Book) (m : List ℕ) (M : State) (f : BookForm b m) (sh : Shows b 
   shown = subst (Shown (b .rows) (b .count)) (sh .rows) (form-shown (tableOf b) (f .table))
 
   -- a flag that is set is one of a row that has a number
-  flag-below : (g j : ℕ) → Set (b .flags) g j → g < length (M .N)
+  pub flag-below : (g j : ℕ) → Set (b .flags) g j → g < length (M .N)
   flag-below g j d = go (decLt g (length (M .N)))
     where
       go : Dec (g < length (M .N)) → g < length (M .N)

@@ -1,6 +1,7 @@
 pub mod Balance
 pub mod ClosedBook
 pub mod Decided
+pub mod Demand3
 pub mod Fits
 pub mod Following
 pub mod Forms
@@ -8,6 +9,8 @@ pub mod Keeping
 pub mod Loops
 pub mod Moving
 pub mod Net
+pub mod Reached
 pub mod RowBack
 pub mod Sets
 pub mod Showing
+pub mod Standings

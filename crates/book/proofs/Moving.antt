@@ -3,6 +3,7 @@ use Prim.Native.Nat.{ℕ}
 use mathlib.Core.Path.{_≡_, refl, sym, ap, subst, _∙_}
 use mathlib.Core.Bool.{Bool, true, false, cond}
 use mathlib.Core.List.{List}
+use native.Mathlib.Omega.{arith}
 use Rattle.sorts.specs.declared.Prin.{Prin}
 use Rattle.rows.specs.Written.{Grant}
 use Rattle.rows.specs.Numbering.{has, add, number, numberConcl}
@@ -13,7 +14,7 @@ use Rattle.reader.specs.Requests.{fits}
 use Rattle.reader.specs.declared.records.Standing.{Standing}
 use Rattle.reader.specs.declared.records.Standing.the-variants.{Trusted, Issued}
 use Rattle.reader.proofs.Fuse.{Ext, ext-refl, number-ext, concl-more}
-use Rattle.book.specs.Machine.{State, Licence, Verdict, changes, refuse, act, acted, without, hasLicence, addLicence, withoutLicence}
+use Rattle.book.specs.Machine.{State, Licence, Verdict, Step, changes, asks, refuses, refuse, act, acted, without, hasLicence, addLicence, withoutLicence}
 use Rattle.book.proofs.Sets.{add-has, add-other, without-same, without-other, addLicence-has, addLicence-other, withoutLicence-same, withoutLicence-other, licence-dec}
 use Rattle.book.proofs.Showing.{standsIn, grant-dec}
 
@@ -115,3 +116,17 @@ module _ (M : State) where
       (record { grows = grows-by M (record { T = M .T; L = M .L; N = numberConcl c (M .N) }) (λ h e. e) (λ x e. e); shrinks = grows-by (record { T = M .T; L = M .L; N = numberConcl c (M .N) }) M (λ h e. e) (λ x e. e); ext = concl-more c (M .N) })
       (fits (numberConcl c (M .N)))
   moved (refused k) = same-state M
+
+  -- a record that asks is a query
+  not-asking : (X Y : Step) (c : ℕ) {A : Type 0} → X .says ≡ changes → {k : ℕ} → Y .says ≡ refuses k → (b : Bool) → cond b X Y .says ≡ asks c → A
+  not-asking X Y c x {k} y true e = let d : changes ≡ asks c = sym x ∙ e in let z : _≡_ {A = ℕ} 0 1 = cc in absurd (omega arith)
+  not-asking X Y c x {k} y false e = let d : refuses k ≡ asks c = sym y ∙ e in let z : _≡_ {A = ℕ} 0 1 = cc in absurd (omega arith)
+
+  pub asks-still : (o : Outcome Record) (c : ℕ) → acted M o .says ≡ asks c → Still M (acted M o .next)
+  unfolding act
+  asks-still (got (TG g) n) c e = not-asking _ (refuse M 6 n) c refl refl (fits (number g (M .N))) e
+  asks-still (got (ST g) n) c e = not-asking _ (refuse M 7 n) c refl refl (has g (M .T)) e
+  asks-still (got (LI p g) n) c e = not-asking _ (refuse M 6 n) c refl refl (fits (number g (M .N))) e
+  asks-still (got (WD p g) n) c e = not-asking _ (refuse M 7 n) c refl refl (hasLicence (record { issuer = p; what = g }) (M .L)) e
+  asks-still (got (QU q) n) c e = moved (got (QU q) n)
+  asks-still (refused k) c e = same-state M

@@ -1,0 +1,77 @@
+-- Demand 3: one theorem about every list of calls from a fresh book.
+use Prim.Native.Nat.{ℕ, _+_}
+use mathlib.Core.Path.{_≡_, refl, sym, ap, subst, _∙_}
+use mathlib.Core.List.{List, [], _∷_}
+use mathlib.Core.Logic.{_↔_}
+use native.Mathlib.Omega.{arith}
+use lib.ListN.{getD}
+use Rattle.sorts.specs.Numbers.{allMarks}
+use Rattle.reader.specs.Bytes.{Outcome, got, refused}
+use Rattle.reader.specs.Records.{Record, TG, ST, LI, WD, QU, readRecord}
+use Rattle.rules.specs.Standing.{In, standing}
+use Rattle.book.specs.declared.Book.{Book}
+use Rattle.book.specs.declared.Answered.{Answered}
+use Rattle.book.specs.Machine.{State, start, act, step}
+use Rattle.book.specs.Counts.{ones}
+use Rattle.book.specs.Calls.{Called}
+use Rattle.book.specs.Chains.{freshBook, freshMarks, Call, Chain, none, then, records, runs, allGains, allLosses}
+use Rattle.book.specs.Demands.{Stands, Agrees, OneWay, AllOneWay, Demand3}
+use Rattle.book.proofs.Balance.{ones-none}
+use Rattle.book.proofs.ClosedBook.{stands-in}
+use Rattle.book.proofs.Moving.{Moved, moved}
+use Rattle.book.proofs.Reached.{Reached, fresh-reached, fol, reached-after, call-balance, no-loss, no-gain}
+
+-- what holds after a list of calls from a book that was reached
+pub record After (M : State) (m₀ : List ℕ) (cs : List Call) (b : Book) (m : List ℕ) : Type 0 where
+  pub reached : Reached b m (runs M (records cs))
+  pub answers : Agrees M cs
+  pub sums : allGains cs + ones m₀ ≡ allLosses cs + ones m
+  pub oneWay : AllOneWay cs
+
+module _ {b : Book} {m s : List ℕ} {r : Answered} {n : List ℕ} {M : State} (R : Reached b m M) (C : Called b m s r n) where
+  abbrev this : Call
+  this = record { record′ = s; before = b; marks = m; gave = r; left = n }
+
+  -- a call goes one way, by its record
+  one-way : (o : Outcome Record) → readRecord s ≡ o → Moved M o → OneWay o this
+  unfolding step
+  one-way (got (TG g) k) e u = no-loss R C (rw e u)
+  one-way (got (ST g) k) e u = no-gain R C (rw e u)
+  one-way (got (LI p g) k) e u = no-loss R C (rw e u)
+  one-way (got (WD p g) k) e u = no-gain R C (rw e u)
+  one-way (got (QU c) k) e u = tt
+  one-way (refused k) e u = tt
+
+pub after : {b b′ : Book} {m m′ : List ℕ} {cs : List Call} {M : State} → Reached b m M → Chain b m cs b′ m′ → After M m cs b′ m′
+unfolding runs records Agrees AllOneWay allGains allLosses
+after {m = m} R none = record { reached = R; answers = tt; sums = refl; oneWay = tt }
+after {b} {b′} {m} {m′} {M = M} R (then s r n C K) =
+    let A = after (reached-after R C) K in
+    let x = A .sums in
+    let y = call-balance R C in
+    record {
+      reached = A .reached;
+      answers = (fol R C .answer, fol R C .used, A .answers);
+      sums = omega arith;
+      oneWay = (one-way R C (readRecord s) refl (moved M (readRecord s)), A .oneWay);
+    }
+
+-- Marks, rows, flags and answers are what the plain machine, fed only the records' bytes, and the closed sets say; gains less
+-- losses equal the marks standing; no enter or issue loses, no strike or withdrawal gains.
+pub demand-3 : (cs : List Call) (b : Book) (m : List ℕ) → Chain freshBook freshMarks cs b m → Demand3 cs b m
+unfolding freshMarks
+demand-3 cs b m K =
+    let A = after fresh-reached K in
+    let R = A .reached in
+    let x = A .sums in
+    let y = ones-none allMarks in
+    record {
+      marks = λ n.
+          let i = stands-in b m (runs start (records cs)) (R .form) (R .shows) n in
+          (λ h. i .0 (subst (λ (l : List ℕ). In l n) (R .stands) h), λ h. subst (λ (l : List ℕ). In l n) (sym (R .stands)) (i .1 h));
+      form = R .form;
+      shows = R .shows;
+      answers = A .answers;
+      sums = omega arith;
+      oneWay = A .oneWay;
+    }
