@@ -1,7 +1,10 @@
 pub mod Balance
 pub mod ClosedBook
 pub mod Decided
+pub mod Demand1
+pub mod Demand2
 pub mod Demand3
+pub mod Existence
 pub mod Fits
 pub mod Following
 pub mod Forms
@@ -13,4 +16,5 @@ pub mod Reached
 pub mod RowBack
 pub mod Sets
 pub mod Showing
+pub mod Shown
 pub mod Standings

@@ -1,10 +1,11 @@
 -- Sets of grants and of licences, by membership.
-use Prim.Native.Nat.{ℕ, suc}
+use Prim.Native.Nat.{ℕ, zero, suc, _<_}
 use mathlib.Core.Path.{_≡_, refl, sym, ap, _∙_}
 use mathlib.Core.Bool.{Bool, true, false, cond, _&&_}
 use mathlib.Core.List.{List, [], _∷_, _++_}
 use native.Mathlib.Omega.{arith}
-use native.Mathlib.Nat.{not-suc-le-zero}
+use native.Mathlib.Nat.{not-suc-le-zero, le-refl}
+use native.Mathlib.Decide.{ℕ-discrete}
 use lib.ListN.{length, getD}
 use lib.Dec.{eqb, ltb, leb·suc-suc}
 use borrow.Author.Tests.{eqb-true, eq-eqb, lt-ltb, ltb-true}
@@ -15,7 +16,7 @@ use Rattle.book.specs.Machine.{Licence, sameLicence, without, hasLicence
 
 -- Both kinds of set are lists with a test of sameness that is equality.
 module _ {A : Type 0} (eq : A → A → Bool) (eq-is : (x y : A) → eq x y ≡ true → x ≡ y) (eq-refl : (x : A) → eq x x ≡ true) where
-  member : A → List A → Bool
+  pub member : A → List A → Bool
   member x [] = false
   member x (y ∷ l) = cond (eq x y) true (member x l)
 
@@ -63,10 +64,46 @@ module _ {A : Type 0} (eq : A → A → Bool) (eq-is : (x y : A) → eq x y ≡ 
           skip false q = rw q
       go false e h = rw e (ap (λ (b : Bool). cond (eq z y) true b) h)
 
+  -- the values of x at the numbers below n where f is true
+  pub collect : ℕ → (ℕ → Bool) → (ℕ → A) → List A
+  collect zero f x = []
+  collect (suc n) f x = cond (f n) (x n ∷ collect n f x) (collect n f x)
+
+  pub collect-member : (n : ℕ) (f : ℕ → Bool) (x : ℕ → A) (i : ℕ) → i < n → f i ≡ true → member (x i) (collect n f x) ≡ true
+  unfolding member collect
+  collect-member zero f x i l e = absurd (not-suc-le-zero l)
+  collect-member (suc n) f x i l e = go (ℕ-discrete i n) (collect-member n f x i)
+    where
+      behind : (b : Bool) → member (x i) (collect n f x) ≡ true → member (x i) (cond b (x n ∷ collect n f x) (collect n f x)) ≡ true
+      behind true h = first (eq (x i) (x n))
+        where
+          first : (c : Bool) → cond c true (member (x i) (collect n f x)) ≡ true
+          first true = refl
+          first false = h
+      behind false h = h
+
+      go : Dec (i ≡ n) → (i < n → f i ≡ true → member (x i) (collect n f x) ≡ true) → member (x i) (cond (f n) (x n ∷ collect n f x) (collect n f x)) ≡ true
+      go (yes d) ih = rw (ap f (sym d) ∙ e) (rw (ap (λ (k : ℕ). eq (x i) (x k)) (sym d) ∙ eq-refl (x i)))
+      go (no d) ih = behind (f n) (ih (omega arith) e)
+
+  pub member-collect : (n : ℕ) (f : ℕ → Bool) (x : ℕ → A) (y : A) → member y (collect n f x) ≡ true → (i : ℕ) × (i < n) × (f i ≡ true) × (x i ≡ y)
+  unfolding member collect
+  member-collect zero f x y e = absurd (no-true e)
+  member-collect (suc n) f x y e = go (f n) refl (eq y (x n)) refl e (member-collect n f x y)
+    where
+      wider : (i : ℕ) × (i < n) × (f i ≡ true) × (x i ≡ y) → (i : ℕ) × (i < suc n) × (f i ≡ true) × (x i ≡ y)
+      wider w = let l = w .1 in (w .0, omega arith, w .2, w .3)
+
+      go : (b : Bool) → f n ≡ b → (c : Bool) → eq y (x n) ≡ c → member y (cond b (x n ∷ collect n f x) (collect n f x)) ≡ true →
+        (member y (collect n f x) ≡ true → (i : ℕ) × (i < n) × (f i ≡ true) × (x i ≡ y)) → (i : ℕ) × (i < suc n) × (f i ≡ true) × (x i ≡ y)
+      go true p true q h ih = (n, le-refl (suc n), p, sym (eq-is y (x n) q))
+      go true p false q h ih = wider (ih (sym (ap (λ (c : Bool). cond c true (member y (collect n f x))) q) ∙ h))
+      go false p c q h ih = wider (ih h)
+
 -- sets of grants
 
 -- a grant's place below the length is membership
-has-member : (g : Grant) (T : List Grant) → has g T ≡ member same same-eq same-refl g T
+pub has-member : (g : Grant) (T : List Grant) → has g T ≡ member same same-eq same-refl g T
 unfolding has place member
 has-member g [] = refl
 has-member g (h ∷ T) = go (same g h) (has-member g T)
@@ -112,14 +149,14 @@ and-2 : (a b : Bool) → (a && b) ≡ true → b ≡ true
 and-2 true b e = e
 and-2 false b e = absurd (no-true e)
 
-licence-eq : (x y : Licence) → sameLicence x y ≡ true → x ≡ y
+pub licence-eq : (x y : Licence) → sameLicence x y ≡ true → x ≡ y
 licence-eq x y e =
     λ i. record { issuer = eqb-true (x .issuer) (y .issuer) (and-1 _ (same (x .what) (y .what)) e) i; what = same-eq (x .what) (y .what) (and-2 (eqb (x .issuer) (y .issuer)) _ e) i }
 
-licence-refl : (x : Licence) → sameLicence x x ≡ true
+pub licence-refl : (x : Licence) → sameLicence x x ≡ true
 licence-refl x = rw (eq-eqb (x .issuer) (x .issuer) refl) (same-refl (x .what))
 
-licence-member : (x : Licence) (L : List Licence) → hasLicence x L ≡ member sameLicence licence-eq licence-refl x L
+pub licence-member : (x : Licence) (L : List Licence) → hasLicence x L ≡ member sameLicence licence-eq licence-refl x L
 unfolding hasLicence member
 licence-member x [] = refl
 licence-member x (y ∷ L) = ap (λ (b : Bool). cond (sameLicence x y) true b) (licence-member x L)

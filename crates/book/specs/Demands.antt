@@ -1,19 +1,23 @@
 -- What is demanded of every call and of every list of calls from a fresh book.
 use Prim.Native.Nat.{ℕ, _+_}
 use mathlib.Core.Path.{_≡_}
+use mathlib.Core.Bool.{false}
 use mathlib.Core.List.{List, [], _∷_}
 use mathlib.Core.Logic.{_↔_}
 use lib.ListN.{getD}
+use Rattle.rows.specs.Numbering.{has, number, numberConcl}
 use Rattle.reader.specs.Bytes.{Outcome, got, refused}
 use Rattle.reader.specs.Records.{Record, TG, ST, LI, WD, QU, readRecord}
+use Rattle.reader.specs.Requests.{fits}
 use Rattle.rules.specs.Standing.{In}
 use Rattle.book.specs.declared.Book.{Book}
 use Rattle.book.specs.declared.Answer.{Answer}
-use Rattle.book.specs.declared.Answer.the-variants.{Permitted, NotPermitted}
+use Rattle.book.specs.declared.Answer.the-variants.{Permitted, NotPermitted, Changed, Refused}
+use Rattle.book.specs.declared.Counts.{Counts}
 use Rattle.book.specs.declared.Answered.{Answered}
-use Rattle.book.specs.Machine.{State, asks, start, step}
+use Rattle.book.specs.Machine.{State, changes, asks, hasLicence, start, step}
 use Rattle.book.specs.Closed.{ClosedSet}
-use Rattle.book.specs.Counts.{gains, ones}
+use Rattle.book.specs.Counts.{gains, ones, countsOf}
 use Rattle.book.specs.Books.{BookForm, Shows}
 use Rattle.book.specs.Calls.{answerOf}
 use Rattle.book.specs.Chains.{Call, records, runs, gainedBy, lostBy, allGains, allLosses}
@@ -72,3 +76,30 @@ pub record Demand3 (cs : List Call) (b : Book) (m : List ℕ) : Type 1 where
   pub answers : Agrees start cs
   pub sums : allGains cs ≡ allLosses cs + ones m
   pub oneWay : AllOneWay cs
+
+-- The conditions under which a record is turned back where the book is in form and shows M, by what was read: the fault's own
+-- number; 6 "the grants that the record would number and those in N exceed 64"; 7 "the grant or licence to remove doesn't stand".
+abbrev pub Turned : State → Outcome Record → ℕ → Type 0
+Turned M (refused j) k = j ≡ k
+Turned M (got (TG g) n) k = (fits (number g (M .N)) ≡ false) × (k ≡ 6)
+Turned M (got (ST g) n) k = (has g (M .T) ≡ false) × (k ≡ 7)
+Turned M (got (LI p g) n) k = (fits (number g (M .N)) ≡ false) × (k ≡ 6)
+Turned M (got (WD p g) n) k = (hasLicence (record { issuer = p; what = g }) (M .L) ≡ false) × (k ≡ 7)
+Turned M (got (QU c) n) k = (fits (numberConcl c (M .N)) ≡ false) × (k ≡ 6)
+
+-- A call on a book in form that shows M: each answer under its condition and no other.
+pub record Answers (M : State) (b : Book) (m s : List ℕ) (r : Answered) (n : List ℕ) : Type 0 where
+  pub refusals : (k : ℕ) → (r .answer ≡ Refused k) ↔ Turned M (readRecord s) k
+  pub permitted : (r .answer ≡ Permitted) ↔ ((c : ℕ) × (step M s .says ≡ asks c) × (getD m c 0 ≡ 1))
+  pub notPermitted : (r .answer ≡ NotPermitted) ↔ ((c : ℕ) × (step M s .says ≡ asks c) × (getD m c 0 ≡ 1 → ⊥))
+  pub changed : (x : Counts) → (r .answer ≡ Changed x) ↔ ((step M s .says ≡ changes) × (x ≡ countsOf m n))
+  pub used : r .used ≡ step M s .used
+  pub kept : (k : ℕ) → r .answer ≡ Refused k → (r .book ≡ b) × (n ≡ m)
+
+-- DEMAND 1, of every lent book, marks and bytes: "Every record of bytes and every lent book gets an answer: permitted, not
+-- permitted, a change with its counts, or one of the numbered refusals, each under its condition and no other. A refused record
+-- leaves every part of the book unchanged." 9: "the lent book is out of form". Every book in form shows some state.
+pub record Demand1 (b : Book) (m s : List ℕ) (r : Answered) (n : List ℕ) : Type 0 where
+  pub unformed : (BookForm b m → ⊥) → (r ≡ record { book = b; answer = Refused 9; used = 0 }) × (n ≡ m)
+  pub formed : BookForm b m → (M : State) → Shows b M → Answers M b m s r n
+  pub shown : BookForm b m → (M : State) × Shows b M

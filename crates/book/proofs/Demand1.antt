@@ -1,0 +1,112 @@
+-- Demand 1: every record and every lent book gets its answer.
+use Prim.Native.Nat.{ℕ}
+use mathlib.Core.Path.{_≡_, refl, sym, ap, subst, _∙_}
+use mathlib.Core.Bool.{Bool, true, false, cond}
+use mathlib.Core.List.{List}
+use mathlib.Core.Logic.{_↔_}
+use native.Mathlib.Omega.{arith}
+use lib.ListN.{getD}
+use lib.Dec.{eqb}
+use Rattle.rows.specs.Numbering.{has, number, numberConcl}
+use Rattle.rows.proofs.Bytes.{no-true}
+use Rattle.reader.specs.Bytes.{Outcome, got, refused}
+use Rattle.reader.specs.Records.{Record, TG, ST, LI, WD, QU, readRecord}
+use Rattle.reader.specs.Requests.{fits}
+use Rattle.book.specs.declared.Book.{Book}
+use Rattle.book.specs.declared.Counts.{Counts}
+use Rattle.book.specs.declared.Answer.{Answer}
+use Rattle.book.specs.declared.Answer.the-variants.{Permitted, NotPermitted, Changed, Refused}
+use Rattle.book.specs.declared.Answered.{Answered}
+use Rattle.book.specs.Machine.{State, Step, Verdict, changes, asks, refuses, refuse, act, acted, step, hasLicence}
+use Rattle.book.specs.Counts.{countsOf}
+use Rattle.book.specs.Books.{BookForm, Shows}
+use Rattle.book.specs.Calls.{answerOf, marksAfter, Follows, Called}
+use Rattle.book.specs.Demands.{Turned, Answers, Demand1}
+use Rattle.book.proofs.Shown.{shows-some}
+use Rattle.book.proofs.Demand2.{answer-yes, answer-no}
+
+both-ways : {A B C : Type 0} → A ↔ B → B ↔ C → A ↔ C
+both-ways p q = (λ a. q .0 (p .0 a), λ c. p .1 (q .1 c))
+
+-- what the machine refuses, by the record
+
+module _ (M : State) (k : ℕ) where
+  -- an accepted step, or a refusal with the number j
+  two : (X : Step) → ((i : ℕ) → X .says ≡ refuses i → ⊥) → (j n : ℕ) (b : Bool) → (cond b X (refuse M j n) .says ≡ refuses k) ↔ ((b ≡ false) × (k ≡ j))
+  two X f j n true = (λ e. absurd (f k e), λ h. absurd (no-true (sym (h .0))))
+  two X f j n false = (λ e. let d : j ≡ k = cc in (refl, sym d), λ h. ap refuses (sym (h .1)))
+
+  accepts : (i : ℕ) → changes ≡ refuses i → ⊥
+  accepts i e = let z : _≡_ {A = ℕ} 0 1 = cc in omega arith
+
+  turned : (o : Outcome Record) → (acted M o .says ≡ refuses k) ↔ Turned M o k
+  unfolding act
+  turned (got (TG g) n) = two _ accepts 6 n (fits (number g (M .N)))
+  turned (got (ST g) n) = two _ accepts 7 n (has g (M .T))
+  turned (got (LI p g) n) = two _ accepts 6 n (fits (number g (M .N)))
+  turned (got (WD p g) n) = two _ accepts 7 n (hasLicence (record { issuer = p; what = g }) (M .L))
+  turned (got (QU c) n) = two _ (λ i e. let z : _≡_ {A = ℕ} 0 1 = cc in omega arith) 6 n (fits (numberConcl c (M .N)))
+  turned (refused j) = (λ e. let d : j ≡ k = cc in d, λ h. ap refuses h)
+
+-- what the answer says, by the verdict
+
+module _ (m n : List ℕ) where
+  answer-refused : (v : Verdict) (k : ℕ) → (answerOf v m n ≡ Refused k) ↔ (v ≡ refuses k)
+  unfolding answerOf
+  answer-refused changes k = (λ e. let z : _≡_ {A = ℕ} 0 1 = cc in absurd (omega arith), λ e. let z : _≡_ {A = ℕ} 0 1 = cc in absurd (omega arith))
+  answer-refused (asks c) k = (go (eqb (getD m c 0) 1), λ e. let z : _≡_ {A = ℕ} 0 1 = cc in absurd (omega arith))
+    where
+      go : (b : Bool) → cond b Permitted NotPermitted ≡ Refused k → asks c ≡ refuses k
+      go true e = let z : _≡_ {A = ℕ} 0 1 = cc in absurd (omega arith)
+      go false e = let z : _≡_ {A = ℕ} 0 1 = cc in absurd (omega arith)
+  answer-refused (refuses j) k = (λ e. let d : j ≡ k = cc in ap refuses d, λ e. let d : j ≡ k = cc in ap Refused d)
+
+  answer-permitted : (v : Verdict) → (answerOf v m n ≡ Permitted) ↔ ((c : ℕ) × (v ≡ asks c) × (getD m c 0 ≡ 1))
+  unfolding answerOf
+  answer-permitted changes = (λ e. let z : _≡_ {A = ℕ} 0 1 = cc in absurd (omega arith), λ h. let e = h .1 in let z : _≡_ {A = ℕ} 0 1 = cc in absurd (omega arith))
+  answer-permitted (asks c) = (
+    λ e. (c, refl, answer-yes (getD m c 0) .0 e),
+    λ h. let e = h .1 in let d : c ≡ h .0 = cc in answer-yes (getD m c 0) .1 (ap (λ (i : ℕ). getD m i 0) d ∙ h .2),
+  )
+  answer-permitted (refuses j) = (λ e. let z : _≡_ {A = ℕ} 0 1 = cc in absurd (omega arith), λ h. let e = h .1 in let z : _≡_ {A = ℕ} 0 1 = cc in absurd (omega arith))
+
+  answer-denied : (v : Verdict) → (answerOf v m n ≡ NotPermitted) ↔ ((c : ℕ) × (v ≡ asks c) × (getD m c 0 ≡ 1 → ⊥))
+  unfolding answerOf
+  answer-denied changes = (λ e. let z : _≡_ {A = ℕ} 0 1 = cc in absurd (omega arith), λ h. let e = h .1 in let z : _≡_ {A = ℕ} 0 1 = cc in absurd (omega arith))
+  answer-denied (asks c) = (
+    λ e. (c, refl, answer-no (getD m c 0) .0 e),
+    λ h. let e = h .1 in let d : c ≡ h .0 = cc in answer-no (getD m c 0) .1 (λ q. h .2 (ap (λ (i : ℕ). getD m i 0) (sym d) ∙ q)),
+  )
+  answer-denied (refuses j) = (λ e. let z : _≡_ {A = ℕ} 0 1 = cc in absurd (omega arith), λ h. let e = h .1 in let z : _≡_ {A = ℕ} 0 1 = cc in absurd (omega arith))
+
+  answer-changed : (v : Verdict) (x : Counts) → (answerOf v m n ≡ Changed x) ↔ ((v ≡ changes) × (x ≡ countsOf m n))
+  unfolding answerOf
+  answer-changed changes x = (λ e. let d : countsOf m n ≡ x = cc in (refl, sym d), λ h. ap Changed (sym (h .1)))
+  answer-changed (asks c) x = (go (eqb (getD m c 0) 1), λ h. let e = h .0 in let z : _≡_ {A = ℕ} 0 1 = cc in absurd (omega arith))
+    where
+      go : (b : Bool) → cond b Permitted NotPermitted ≡ Changed x → (asks c ≡ changes) × (x ≡ countsOf m n)
+      go true e = let z : _≡_ {A = ℕ} 0 1 = cc in absurd (omega arith)
+      go false e = let z : _≡_ {A = ℕ} 0 1 = cc in absurd (omega arith)
+  answer-changed (refuses j) x = (λ e. let z : _≡_ {A = ℕ} 0 1 = cc in absurd (omega arith), λ h. let e = h .0 in let z : _≡_ {A = ℕ} 0 1 = cc in absurd (omega arith))
+
+module _ {M : State} {b : Book} {m s : List ℕ} {r : Answered} {n : List ℕ} (F : Follows M b m s r n) where
+  -- the answer in place of what it equals
+  as-answer : (a : Answer) → (r .answer ≡ a) ↔ (answerOf (step M s .says) m n ≡ a)
+  as-answer a = (λ e. sym (F .answer) ∙ e, λ e. F .answer ∙ e)
+
+  answers : Answers M b m s r n
+  unfolding step marksAfter
+  answers = record {
+      refusals = λ k. both-ways (as-answer (Refused k)) (both-ways (answer-refused m n (step M s .says) k) (turned M k (readRecord s)));
+      permitted = both-ways (as-answer Permitted) (answer-permitted m n (step M s .says));
+      notPermitted = both-ways (as-answer NotPermitted) (answer-denied m n (step M s .says));
+      changed = λ x. both-ways (as-answer (Changed x)) (answer-changed m n (step M s .says) x);
+      used = F .used;
+      kept = λ k e.
+          let v = answer-refused m n (step M s .says) k .0 (as-answer (Refused k) .0 e) in
+          (F .kept k v, F .marks ∙ ap (λ (w : Verdict). marksAfter w (r .book) m) v) }
+
+-- Every record of bytes and every lent book gets an answer, each under its condition and no other; a refused record leaves
+-- every part of the book unchanged.
+pub demand-1 : (b : Book) (m s : List ℕ) (r : Answered) (n : List ℕ) → Called b m s r n → Demand1 b m s r n
+demand-1 b m s r n C = record { unformed = C .unformed; formed = λ f M sh. answers (C .formed f M sh); shown = λ f. shows-some b m f }

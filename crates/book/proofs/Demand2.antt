@@ -1,0 +1,63 @@
+-- Demand 2: what a query on a book reached from a fresh one answers.
+use Prim.Native.Nat.{ℕ}
+use mathlib.Core.Path.{_≡_, refl, sym, ap, subst, _∙_}
+use mathlib.Core.Bool.{Bool, true, false, cond}
+use mathlib.Core.List.{List}
+use mathlib.Core.Logic.{_↔_}
+use native.Mathlib.Omega.{arith}
+use native.Mathlib.Decide.{ℕ-discrete}
+use lib.ListN.{getD}
+use lib.Dec.{eqb}
+use borrow.Author.Tests.{eq-eqb, ne-eqb}
+use Rattle.rules.specs.Standing.{In, standing}
+use Rattle.book.specs.declared.Book.{Book}
+use Rattle.book.specs.declared.Answer.{Answer}
+use Rattle.book.specs.declared.Answer.the-variants.{Permitted, NotPermitted}
+use Rattle.book.specs.declared.Answered.{Answered}
+use Rattle.book.specs.Machine.{State, Verdict, asks, start, step}
+use Rattle.book.specs.Calls.{answerOf, marksAfter, Called}
+use Rattle.book.specs.Chains.{freshBook, freshMarks, Call, Chain, records, runs}
+use Rattle.book.specs.Demands.{Stands, Lacking, Demand2}
+use Rattle.book.proofs.ClosedBook.{stands-in, stands-out}
+use Rattle.book.proofs.Reached.{Reached, fresh-reached, fol, reached-after}
+use Rattle.book.proofs.Demand3.{after}
+
+-- the two answers of a query, by its mark
+
+pub answer-yes : (x : ℕ) → (cond (eqb x 1) Permitted NotPermitted ≡ Permitted) ↔ (x ≡ 1)
+answer-yes x = (λ e. to e (ℕ-discrete x 1), λ e. ap (λ (b : Bool). cond b Permitted NotPermitted) (eq-eqb x 1 e))
+  where
+    to : cond (eqb x 1) Permitted NotPermitted ≡ Permitted → Dec (x ≡ 1) → x ≡ 1
+    to e (yes d) = d
+    to e (no d) = let f : NotPermitted ≡ Permitted = sym (ap (λ (b : Bool). cond b Permitted NotPermitted) (ne-eqb x 1 d)) ∙ e in let z : _≡_ {A = ℕ} 0 1 = cc in absurd (omega arith)
+
+pub answer-no : (x : ℕ) → (cond (eqb x 1) Permitted NotPermitted ≡ NotPermitted) ↔ (x ≡ 1 → ⊥)
+answer-no x = (
+  λ e d. let f : Permitted ≡ NotPermitted = sym (ap (λ (b : Bool). cond b Permitted NotPermitted) (eq-eqb x 1 d)) ∙ e in let z : _≡_ {A = ℕ} 0 1 = cc in omega arith,
+  λ d. ap (λ (b : Bool). cond b Permitted NotPermitted) (ne-eqb x 1 d),
+)
+
+-- An accepted query on a book reached from a fresh one by its calls is permitted exactly when each closed set contains the
+-- conclusion, and not permitted exactly when some closed set lacks it.
+pub demand-2 : (cs : List Call) (b : Book) (m : List ℕ) → Chain freshBook freshMarks cs b m → (s : List ℕ) (r : Answered) (n : List ℕ) → Called b m s r n →
+  (c : ℕ) → step (runs start (records cs)) s .says ≡ asks c → Demand2 (step (runs start (records cs)) s .next) c (r .answer)
+unfolding answerOf marksAfter
+demand-2 cs b m K s r n C c e =
+    let R = after fresh-reached K .reached in
+    let F = fol R C in
+    let R′ = reached-after R C in
+    let M′ = step (runs start (records cs)) s .next in
+    let a : r .answer ≡ cond (eqb (getD m c 0) 1) Permitted NotPermitted = F .answer ∙ ap (λ (v : Verdict). answerOf v m n) e in
+    let k : n ≡ m = F .marks ∙ ap (λ (v : Verdict). marksAfter v (r .book) m) e in
+    let w : m ≡ standing (r .book .rows) (r .book .flags) = sym k ∙ R′ .stands in
+    let i = stands-in (r .book) n M′ (R′ .form) (R′ .shows) c in
+    let o = stands-out (r .book) n M′ (R′ .form) (R′ .shows) c in
+    record {
+      permitted = (
+        λ h. i .0 (subst (λ (l : List ℕ). In l c) w (answer-yes (getD m c 0) .0 (sym a ∙ h))),
+        λ h. a ∙ answer-yes (getD m c 0) .1 (subst (λ (l : List ℕ). In l c) (sym w) (i .1 h)),
+      );
+      notPermitted = (
+        λ h. o .0 (λ q. answer-no (getD m c 0) .0 (sym a ∙ h) (subst (λ (l : List ℕ). In l c) (sym w) q)),
+        λ h. a ∙ answer-no (getD m c 0) .1 (λ q. o .1 h (subst (λ (l : List ℕ). In l c) w q)),
+      ) }

@@ -1,0 +1,42 @@
+-- The demands are not empty: for every list of records there is a chain of calls from a fresh book, and it is worked through
+-- for document 01's own journal.
+use Prim.Native.Nat.{ℕ, _≤_}
+use mathlib.Core.Path.{_≡_, refl, sym, ap, subst, _∙_}
+use mathlib.Core.Bool.{true}
+use mathlib.Core.List.{List, [], _∷_}
+use native.Mathlib.Omega.{arith}
+use Rattle.reader.specs.declared.records.Reading.{Reading}
+use Rattle.reader.specs.inner.OneRecord.{numRecord}
+use Rattle.reader.proofs.Record.{reads-within}
+use Rattle.book.specs.declared.Book.{Book}
+use Rattle.book.specs.declared.Answered.{Answered}
+use Rattle.book.specs.Machine.{State, start, step}
+use Rattle.book.specs.Books.{tableOf, BookForm}
+use Rattle.book.specs.Calls.{Called}
+use Rattle.book.specs.Chains.{freshBook, freshMarks, Call, Chain, none, then, records}
+use Rattle.book.specs.inner.Apply.{applied, marksApplied}
+use Rattle.book.proofs.Keeping.{called-formed}
+use Rattle.book.proofs.Reached.{Reached, fresh-reached, reached-after}
+
+-- a call on a book in form can be had
+call-some : (b : Book) (m s : List ℕ) → BookForm b m → Called b m s (applied b m (numRecord s (tableOf b))) (marksApplied b m (numRecord s (tableOf b)))
+call-some b m s f = called-formed b m s (numRecord s (tableOf b)) _ _ f (reads-within s (tableOf b) _ (f .table .count) refl) refl refl
+
+pub record Some (b : Book) (m : List ℕ) (ss : List (List ℕ)) : Type 0 where
+  pub calls : List Call
+  pub book : Book
+  pub marks : List ℕ
+  pub chain : Chain b m calls book marks
+  pub same : records calls ≡ ss
+
+chain-from : (ss : List (List ℕ)) {b : Book} {m : List ℕ} {M : State} → Reached b m M → Some b m ss
+unfolding records
+chain-from [] {b} {m} R = record { calls = []; book = b; marks = m; chain = none; same = refl }
+chain-from (s ∷ ss) {b} {m} R =
+    let C = call-some b m s (R .form) in
+    let K = chain-from ss (reached-after R C) in
+    record { calls = _; book = K .book; marks = K .marks; chain = then s _ _ C (K .chain); same = ap (λ (l : List (List ℕ)). s ∷ l) (K .same) }
+
+-- For every list of records there is a chain of calls from a fresh book.
+pub chain-some : (ss : List (List ℕ)) → Some freshBook freshMarks ss
+chain-some ss = chain-from ss fresh-reached
