@@ -8,6 +8,7 @@ pub mod Existence
 pub mod Fits
 pub mod Following
 pub mod Forms
+pub mod Journal
 pub mod Keeping
 pub mod Loops
 pub mod Moving

@@ -1,0 +1,62 @@
+-- Document 01's own journal, worked through: what the machine says of each record, what it holds at the end, and so what every
+-- list of calls with these records answers and leaves.
+use Prim.Native.Nat.{ℕ}
+use mathlib.Core.Path.{_≡_, refl, ap, subst, _∙_}
+use mathlib.Core.List.{List, [], _∷_}
+use Rattle.sorts.specs.Numbers.{numberOf}
+use Rattle.rows.specs.Written.{Grant, grant, none, property, perm, issue, written, sameBytes, same}
+use Rattle.rows.specs.Numbering.{place, has, add, number}
+use Rattle.reader.specs.Bytes.{byteAt, upto, principal, pack, form, head}
+use Rattle.reader.specs.Grants.{readProperty, readPacked, readIssue, readConcl, readConds, readWith, readGrant}
+use Rattle.reader.specs.Records.{readEntry, readLicence, readQuery, readContent, readRecord}
+use Rattle.book.specs.declared.Book.{Book}
+use Rattle.book.specs.Machine.{State, Verdict, changes, asks, refuses, start, without, hasLicence, addLicence, withoutLicence, act, step}
+use Rattle.book.specs.Books.{Shows}
+use Rattle.book.specs.Chains.{freshBook, freshMarks, Call, Chain, records, runs}
+use Rattle.book.specs.Demands.{Demand3}
+use Rattle.book.proofs.Demand3.{demand-3}
+
+-- the seven records
+abbrev pub journal : List (List ℕ)
+journal =
+    (84 ∷ 71 ∷ 0 ∷ 0 ∷ 0 ∷ 0 ∷ 0 ∷ 2 ∷ []) ∷
+    (76 ∷ 73 ∷ 0 ∷ 0 ∷ 0 ∷ 0 ∷ 0 ∷ 2 ∷ 2 ∷ []) ∷
+    (81 ∷ 85 ∷ 0 ∷ 2 ∷ 2 ∷ []) ∷
+    (84 ∷ 71 ∷ 0 ∷ 0 ∷ 0 ∷ 1 ∷ 0 ∷ 0 ∷ 0 ∷ 0 ∷ 0 ∷ 0 ∷ 2 ∷ 2 ∷ []) ∷
+    (81 ∷ 85 ∷ 0 ∷ 2 ∷ 2 ∷ []) ∷
+    (87 ∷ 68 ∷ 0 ∷ 0 ∷ 0 ∷ 0 ∷ 0 ∷ 2 ∷ 2 ∷ []) ∷
+    (87 ∷ 68 ∷ 0 ∷ 0 ∷ 0 ∷ 0 ∷ 0 ∷ 2 ∷ 2 ∷ []) ∷ []
+
+-- what the machine says of a list of records
+unfoldable pub verdicts : State → List (List ℕ) → List Verdict
+verdicts M [] = []
+verdicts M (s ∷ ss) = step M s .says ∷ verdicts (step M s .next) ss
+
+opened : State → List (List ℕ) → List Verdict
+unfolding byteAt upto principal pack form head readProperty readPacked readIssue readConcl readConds readWith readGrant readEntry readLicence readQuery readContent readRecord written sameBytes same place has add number without hasLicence addLicence withoutLicence act step runs verdicts
+opened M ss = verdicts M ss
+
+pub journal-verdicts : verdicts start journal ≡ changes ∷ changes ∷ asks 290 ∷ changes ∷ asks 290 ∷ changes ∷ refuses 7 ∷ []
+unfolding opened
+journal-verdicts = refl
+
+-- Smart(2), Good(2), and Perm(0, issue, Good(2))
+abbrev smart : Grant
+smart = grant 0 0 none (property 0 2)
+
+abbrev good : Grant
+good = grant 0 0 none (property 2 2)
+
+abbrev may : Grant
+may = grant 0 0 none (perm 0 (issue good))
+
+abbrev pub journal-end : State
+journal-end = record { T = smart ∷ may ∷ []; L = []; N = smart ∷ good ∷ may ∷ [] }
+
+pub journal-runs : runs start journal ≡ journal-end
+unfolding opened
+journal-runs = refl
+
+-- every list of calls with these records leaves a book that shows that state
+pub journal-shows : (cs : List Call) (b : Book) (m : List ℕ) → Chain freshBook freshMarks cs b m → records cs ≡ journal → Shows b journal-end
+journal-shows cs b m K e = subst (Shows b) (ap (runs start) e ∙ journal-runs) (demand-3 cs b m K .shows)
