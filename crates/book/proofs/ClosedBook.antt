@@ -1,19 +1,16 @@
 -- What stands in a book is what stands for the plain machine that it shows.
-use Prim.Native.Nat.{ℕ, _+_, _*_, _≤_, _<_}
+use Prim.Native.Nat.{ℕ, _+_, _*_, _<_}
 use mathlib.Core.Path.{_≡_, refl, sym, ap, subst, _∙_}
 use mathlib.Core.Bool.{Bool, true, false}
 use mathlib.Core.List.{List}
 use mathlib.Core.Logic.{_↔_}
 use native.Mathlib.Omega.{arith}
 use native.Mathlib.Decide.{decLt}
-use lib.ListN.{length, getD}
+use lib.ListN.{length}
 use Rattle.sorts.specs.declared.Row.{Row}
 use Rattle.sorts.specs.Numbers.{saidMark}
-use Rattle.rows.specs.Written.{Grant}
 use Rattle.rows.specs.Numbering.{has}
-use Rattle.rows.specs.Form.{rowsOut}
-use Rattle.rows.proofs.Bytes.{no-true}
-use Rattle.rows.proofs.Shown.{Shown, form-shown, out-length}
+use Rattle.rows.proofs.Shown.{Shown, form-shown}
 use Rattle.rules.specs.Rules as rules
 use Rattle.rules.specs.Rules.{Met, granted, Values, ClosedUnder, Set, Closed, flag}
 use Rattle.rules.specs.Standing.{In, standing}

@@ -1,6 +1,6 @@
 -- Demand 1: every record and every lent book gets its answer.
 use Prim.Native.Nat.{ℕ}
-use mathlib.Core.Path.{_≡_, refl, sym, ap, subst, _∙_}
+use mathlib.Core.Path.{_≡_, refl, sym, ap, _∙_}
 use mathlib.Core.Bool.{Bool, true, false, cond}
 use mathlib.Core.List.{List}
 use mathlib.Core.Logic.{_↔_}
@@ -19,7 +19,6 @@ use Rattle.book.specs.declared.Answer.the-variants.{Permitted, NotPermit
 use Rattle.book.specs.declared.Answered.{Answered}
 use Rattle.book.specs.Machine.{State, Step, Verdict, changes, asks, refuses, refuse, act, acted, step, hasLicence}
 use Rattle.book.specs.Counts.{countsOf}
-use Rattle.book.specs.Books.{BookForm, Shows}
 use Rattle.book.specs.Calls.{answerOf, marksAfter, Follows, Called}
 use Rattle.book.specs.Demands.{Turned, Answers, Demand1}
 use Rattle.book.proofs.Shown.{shows-some}
@@ -97,14 +96,15 @@ module _ {M : State} {b : Book} {m s : List ℕ} {r : Answered} {n : List ℕ} (
   answers : Answers M b m s r n
   unfolding step marksAfter
   answers = record {
-      refusals = λ k. both-ways (as-answer (Refused k)) (both-ways (answer-refused m n (step M s .says) k) (turned M k (readRecord s)));
-      permitted = both-ways (as-answer Permitted) (answer-permitted m n (step M s .says));
-      notPermitted = both-ways (as-answer NotPermitted) (answer-denied m n (step M s .says));
-      changed = λ x. both-ways (as-answer (Changed x)) (answer-changed m n (step M s .says) x);
-      used = F .used;
-      kept = λ k e.
-          let v = answer-refused m n (step M s .says) k .0 (as-answer (Refused k) .0 e) in
-          (F .kept k v, F .marks ∙ ap (λ (w : Verdict). marksAfter w (r .book) m) v) }
+    refusals = λ k. both-ways (as-answer (Refused k)) (both-ways (answer-refused m n (step M s .says) k) (turned M k (readRecord s)));
+    permitted = both-ways (as-answer Permitted) (answer-permitted m n (step M s .says));
+    notPermitted = both-ways (as-answer NotPermitted) (answer-denied m n (step M s .says));
+    changed = λ x. both-ways (as-answer (Changed x)) (answer-changed m n (step M s .says) x);
+    used = F .used;
+    kept = λ k e.
+        let v = answer-refused m n (step M s .says) k .0 (as-answer (Refused k) .0 e) in
+        (F .kept k v, F .marks ∙ ap (λ (w : Verdict). marksAfter w (r .book) m) v);
+  }
 
 -- Every record of bytes and every lent book gets an answer, each under its condition and no other; a refused record leaves
 -- every part of the book unchanged.

@@ -1,7 +1,7 @@
 -- Demand 2: what a query on a book reached from a fresh one answers.
 use Prim.Native.Nat.{ℕ}
-use mathlib.Core.Path.{_≡_, refl, sym, ap, subst, _∙_}
-use mathlib.Core.Bool.{Bool, true, false, cond}
+use mathlib.Core.Path.{_≡_, sym, ap, subst, _∙_}
+use mathlib.Core.Bool.{Bool, cond}
 use mathlib.Core.List.{List}
 use mathlib.Core.Logic.{_↔_}
 use native.Mathlib.Omega.{arith}
@@ -11,15 +11,14 @@ use lib.Dec.{eqb}
 use borrow.Author.Tests.{eq-eqb, ne-eqb}
 use Rattle.rules.specs.Standing.{In, standing}
 use Rattle.book.specs.declared.Book.{Book}
-use Rattle.book.specs.declared.Answer.{Answer}
 use Rattle.book.specs.declared.Answer.the-variants.{Permitted, NotPermitted}
 use Rattle.book.specs.declared.Answered.{Answered}
-use Rattle.book.specs.Machine.{State, Verdict, asks, start, step}
+use Rattle.book.specs.Machine.{Verdict, asks, start, step}
 use Rattle.book.specs.Calls.{answerOf, marksAfter, Called}
 use Rattle.book.specs.Chains.{freshBook, freshMarks, Call, Chain, records, runs}
-use Rattle.book.specs.Demands.{Stands, Lacking, Demand2}
+use Rattle.book.specs.Demands.{Demand2}
 use Rattle.book.proofs.ClosedBook.{stands-in, stands-out}
-use Rattle.book.proofs.Reached.{Reached, fresh-reached, fol, reached-after}
+use Rattle.book.proofs.Reached.{fresh-reached, fol, reached-after}
 use Rattle.book.proofs.Demand3.{after}
 
 -- the two answers of a query, by its mark
@@ -40,7 +39,7 @@ answer-no x = (
 -- An accepted query on a book reached from a fresh one by its calls is permitted exactly when each closed set contains the
 -- conclusion, and not permitted exactly when some closed set lacks it.
 pub demand-2 : (cs : List Call) (b : Book) (m : List ℕ) → Chain freshBook freshMarks cs b m → (s : List ℕ) (r : Answered) (n : List ℕ) → Called b m s r n →
-  (c : ℕ) → step (runs start (records cs)) s .says ≡ asks c → Demand2 (step (runs start (records cs)) s .next) c (r .answer)
+    (c : ℕ) → step (runs start (records cs)) s .says ≡ asks c → Demand2 (step (runs start (records cs)) s .next) c (r .answer)
 unfolding answerOf marksAfter
 demand-2 cs b m K s r n C c e =
     let R = after fresh-reached K .reached in
@@ -60,4 +59,5 @@ demand-2 cs b m K s r n C c e =
       notPermitted = (
         λ h. o .0 (λ q. answer-no (getD m c 0) .0 (sym a ∙ h) (subst (λ (l : List ℕ). In l c) (sym w) q)),
         λ h. a ∙ answer-no (getD m c 0) .1 (λ q. o .1 h (subst (λ (l : List ℕ). In l c) w q)),
-      ) }
+      );
+    }

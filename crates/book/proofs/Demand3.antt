@@ -1,21 +1,19 @@
 -- Demand 3: one theorem about every list of calls from a fresh book.
 use Prim.Native.Nat.{ℕ, _+_}
-use mathlib.Core.Path.{_≡_, refl, sym, ap, subst, _∙_}
-use mathlib.Core.List.{List, [], _∷_}
-use mathlib.Core.Logic.{_↔_}
+use mathlib.Core.Path.{_≡_, refl, sym, subst}
+use mathlib.Core.List.{List}
 use native.Mathlib.Omega.{arith}
-use lib.ListN.{getD}
 use Rattle.sorts.specs.Numbers.{allMarks}
 use Rattle.reader.specs.Bytes.{Outcome, got, refused}
 use Rattle.reader.specs.Records.{Record, TG, ST, LI, WD, QU, readRecord}
 use Rattle.rules.specs.Standing.{In, standing}
 use Rattle.book.specs.declared.Book.{Book}
 use Rattle.book.specs.declared.Answered.{Answered}
-use Rattle.book.specs.Machine.{State, start, act, step}
+use Rattle.book.specs.Machine.{State, start, step}
 use Rattle.book.specs.Counts.{ones}
 use Rattle.book.specs.Calls.{Called}
 use Rattle.book.specs.Chains.{freshBook, freshMarks, Call, Chain, none, then, records, runs, allGains, allLosses}
-use Rattle.book.specs.Demands.{Stands, Agrees, OneWay, AllOneWay, Demand3}
+use Rattle.book.specs.Demands.{Agrees, OneWay, AllOneWay, Demand3}
 use Rattle.book.proofs.Balance.{ones-none}
 use Rattle.book.proofs.ClosedBook.{stands-in}
 use Rattle.book.proofs.Moving.{Moved, moved}

@@ -1,16 +1,12 @@
 -- The demands are not empty: for every list of records there is a chain of calls from a fresh book, and it is worked through
 -- for document 01's own journal.
-use Prim.Native.Nat.{ℕ, _≤_}
-use mathlib.Core.Path.{_≡_, refl, sym, ap, subst, _∙_}
-use mathlib.Core.Bool.{true}
+use Prim.Native.Nat.{ℕ}
+use mathlib.Core.Path.{_≡_, refl, ap}
 use mathlib.Core.List.{List, [], _∷_}
-use native.Mathlib.Omega.{arith}
-use Rattle.reader.specs.declared.records.Reading.{Reading}
 use Rattle.reader.specs.inner.OneRecord.{numRecord}
 use Rattle.reader.proofs.Record.{reads-within}
 use Rattle.book.specs.declared.Book.{Book}
-use Rattle.book.specs.declared.Answered.{Answered}
-use Rattle.book.specs.Machine.{State, start, step}
+use Rattle.book.specs.Machine.{State}
 use Rattle.book.specs.Books.{tableOf, BookForm}
 use Rattle.book.specs.Calls.{Called}
 use Rattle.book.specs.Chains.{freshBook, freshMarks, Call, Chain, none, then, records}

@@ -1,5 +1,5 @@
 -- A call on a book in form follows the plain machine.
-use Prim.Native.Nat.{ℕ, _+_, _*_, _≤_, _<_}
+use Prim.Native.Nat.{ℕ, _*_, _≤_, _<_}
 use mathlib.Core.Path.{_≡_, refl, sym, ap, subst, _∙_}
 use mathlib.Core.Bool.{Bool, true, false, cond}
 use mathlib.Core.List.{List}
@@ -7,18 +7,16 @@ use native.Mathlib.Omega.{arith}
 use native.Mathlib.Decide.{ℕ-discrete}
 use lib.ListN.{length, getD, set, length-set}
 use lib.Seq.{getD-set-same, getD-set-other}
-use lib.Dec.{eqb}
-use borrow.Author.Tests.{eq-eqb}
 use Rattle.sorts.specs.declared.Prin.{Prin}
 use Rattle.sorts.specs.Numbers.{numberOf}
 use Rattle.sorts.proofs.Marks.{prin-is}
 use Rattle.rows.specs.declared.Table.{Table}
 use Rattle.rows.specs.Written.{Grant, Concl}
 use Rattle.rows.specs.Numbering.{place, has, add, number, numberConcl}
-use Rattle.rows.specs.Form.{noGrant, conclOf, rowsOut, TableForm}
+use Rattle.rows.specs.Form.{conclOf, rowsOut, TableForm}
 use Rattle.rows.proofs.Bytes.{no-true}
 use Rattle.rows.proofs.Place.{Distinct, place-at, has-lt}
-use Rattle.rows.proofs.Shown.{Shown, form-shown, out-length}
+use Rattle.rows.proofs.Shown.{form-shown, out-length}
 use Rattle.reader.specs.Bytes.{Outcome, got, refused}
 use Rattle.reader.specs.Records.{Record, TG, ST, LI, WD, QU, readRecord}
 use Rattle.reader.specs.Requests.{fits, foundOf, numberedBy, Reads}
@@ -33,14 +31,13 @@ use Rattle.reader.proofs.Fuse.{Ext, ext-refl, ext-length, number-ext, concl-mor
 use Rattle.rules.specs.Standing.{standing}
 use Rattle.rules.proofs.Standing.{standing-length, standing-bits}
 use Rattle.book.specs.declared.Book.{Book}
-use Rattle.book.specs.declared.Answer.the-variants.{Permitted, NotPermitted, Changed, Refused}
 use Rattle.book.specs.declared.Answered.{Answered}
-use Rattle.book.specs.Machine.{State, Licence, Step, Verdict, changes, asks, refuses, refuse, act, acted, step, without, hasLicence, addLicence, withoutLicence}
+use Rattle.book.specs.Machine.{State, Licence, Step, changes, asks, refuses, refuse, act, acted, step, without, hasLicence, addLicence, withoutLicence}
 use Rattle.book.specs.Books.{tableOf, BookForm, Shows, bit}
 use Rattle.book.specs.Calls.{answerOf, marksAfter, Follows}
-use Rattle.book.specs.inner.Apply.{placeOf, flagged, refusedWith, changedTo, removed, marksRemoved, queried, appliedTo, marksAppliedTo, applied, marksApplied, Ready}
+use Rattle.book.specs.inner.Apply.{placeOf, flagged, refusedWith, changedTo, appliedTo, marksAppliedTo, applied, marksApplied, Ready}
 use Rattle.book.proofs.Sets.{add-has, add-other, without-same, without-other, addLicence-has, addLicence-other, withoutLicence-same, withoutLicence-other}
-use Rattle.book.proofs.Showing.{Known, standsIn, Uniform, shows-uniform, uniform-shows, place-from, uniform-more, uniform-set}
+use Rattle.book.proofs.Showing.{Known, standsIn, Uniform, shows-uniform, uniform-shows, uniform-more, uniform-set}
 use Rattle.book.proofs.Forms.{table-rows, number-has, found-fits}
 
 -- what a call follows, for any step

@@ -1,32 +1,29 @@
 -- What a book in form and a record that was read give the evaluation and the calls.
-use Prim.Native.Nat.{ℕ, _+_, _*_, _≤_, _<_}
-use mathlib.Core.Path.{_≡_, refl, sym, ap, subst, _∙_}
+use Prim.Native.Nat.{ℕ, _≤_, _<_}
+use mathlib.Core.Path.{_≡_, refl, sym, subst}
 use mathlib.Core.Bool.{Bool, true, false, cond}
 use mathlib.Core.List.{List}
-use mathlib.Core.Logic.{_⊎_, inl, inr, ⊎-elim}
+use mathlib.Core.Logic.{inl, inr}
 use native.Mathlib.Omega.{arith}
 use native.Mathlib.Decide.{decLt}
 use lib.ListN.{length, getD, getD-replicate}
-use lib.Dec.{leb}
 use borrow.Author.Tests.{leb-true}
 use Rattle.sorts.specs.declared.Prin.{Prin}
 use Rattle.sorts.specs.declared.Res as r
 use Rattle.sorts.specs.declared.Res.the-variants.{Issue, Run, Export}
 use Rattle.sorts.specs.declared.Concl as rc
 use Rattle.sorts.specs.declared.Concl.the-variants.{Property, Perm}
-use Rattle.sorts.specs.declared.Cond.{Cond}
 use Rattle.sorts.specs.declared.Row.{Row}
 use Rattle.sorts.specs.Blank.{blankCond, blankRow, noRow}
-use Rattle.sorts.specs.Numbers.{numberOf, ClosedConcl, ClosedRes}
+use Rattle.sorts.specs.Numbers.{ClosedConcl}
 use Rattle.sorts.proofs.Marks.{number-lt}
 use Rattle.rows.specs.declared.Table.{Table}
-use Rattle.rows.specs.Written.{Grant, grant, Concl, Right, property, perm, issue, issueAny, run, export}
+use Rattle.rows.specs.Written.{Grant, grant, Concl, property, perm, issue, issueAny, run, export}
 use Rattle.rows.specs.Numbering.{place, has, number, numberConds, numberConcl}
 use Rattle.rows.specs.Form as rows
-use Rattle.rows.specs.Form.{conclOf, rowsOut, TableForm}
-use Rattle.rows.specs.Allowed.{AllowedConcl, AllowedRight, Allowed}
+use Rattle.rows.specs.Form.{conclOf, TableForm}
+use Rattle.rows.specs.Allowed.{AllowedConcl}
 use Rattle.rows.proofs.Place.{has-lt}
-use Rattle.rows.proofs.Shown.{form-shown, out-length}
 use Rattle.reader.specs.Bytes.{Outcome, got, refused}
 use Rattle.reader.specs.Records.{Record, TG, ST, LI, WD, QU, readRecord}
 use Rattle.reader.specs.Requests.{fits, foundOf}
@@ -36,7 +33,7 @@ use Rattle.reader.specs.declared.records.Request.the-variants.{Enter, Remove, Q
 use Rattle.reader.specs.declared.records.Found.the-variants as found
 use Rattle.reader.proofs.Exact.{AllowedRecord, record-exact}
 use Rattle.rules.specs.RowForm.{PrinForm, PackForm, ResForm, ConclForm, CondForm, RowForm, RowsForm}
-use Rattle.book.specs.inner.Apply.{placeOf, FoundFits}
+use Rattle.book.specs.inner.Apply.{FoundFits}
 use Rattle.book.proofs.Sets.{add-has}
 use Rattle.book.proofs.Showing.{Known, place-fits}
 

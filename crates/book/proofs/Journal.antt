@@ -3,7 +3,6 @@
 use Prim.Native.Nat.{ℕ}
 use mathlib.Core.Path.{_≡_, refl, ap, subst, _∙_}
 use mathlib.Core.List.{List, [], _∷_}
-use Rattle.sorts.specs.Numbers.{numberOf}
 use Rattle.rows.specs.Written.{Grant, grant, none, property, perm, issue, written, sameBytes, same}
 use Rattle.rows.specs.Numbering.{place, has, add, number}
 use Rattle.reader.specs.Bytes.{byteAt, upto, principal, pack, form, head}
@@ -13,7 +12,6 @@ use Rattle.book.specs.declared.Book.{Book}
 use Rattle.book.specs.Machine.{State, Verdict, changes, asks, refuses, start, without, hasLicence, addLicence, withoutLicence, act, step}
 use Rattle.book.specs.Books.{Shows}
 use Rattle.book.specs.Chains.{freshBook, freshMarks, Call, Chain, records, runs}
-use Rattle.book.specs.Demands.{Demand3}
 use Rattle.book.proofs.Demand3.{demand-3}
 
 -- the seven records

@@ -6,8 +6,7 @@ use Rattle.reader.specs.Requests.{Reads}
 use Rattle.reader.specs.declared.records.Reading.{Reading}
 use Rattle.book.specs.declared.Book.{Book}
 use Rattle.book.specs.declared.Answered.{Answered}
-use Rattle.book.specs.Machine.{State}
-use Rattle.book.specs.Books.{tableOf, BookForm, Shows}
+use Rattle.book.specs.Books.{tableOf, BookForm}
 use Rattle.book.specs.Calls.{Follows, Called}
 use Rattle.book.specs.inner.Apply.{applied, marksApplied, refusedWith}
 use Rattle.book.proofs.Following.{follows}

@@ -1,10 +1,9 @@
 -- How a record moves what stands: an entry takes nothing away, a removal adds nothing.
 use Prim.Native.Nat.{ℕ}
-use mathlib.Core.Path.{_≡_, refl, sym, ap, subst, _∙_}
+use mathlib.Core.Path.{_≡_, refl, sym, subst, _∙_}
 use mathlib.Core.Bool.{Bool, true, false, cond}
 use mathlib.Core.List.{List}
 use native.Mathlib.Omega.{arith}
-use Rattle.sorts.specs.declared.Prin.{Prin}
 use Rattle.rows.specs.Written.{Grant}
 use Rattle.rows.specs.Numbering.{has, add, number, numberConcl}
 use Rattle.rows.proofs.Bytes.{no-true}

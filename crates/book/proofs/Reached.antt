@@ -1,34 +1,32 @@
 -- A book that calls reached, and one more call on it.
-use Prim.Native.Nat.{ℕ, _+_, _*_, _≤_, _<_}
+use Prim.Native.Nat.{ℕ, _+_, _*_}
 use mathlib.Core.Path.{_≡_, refl, sym, ap, subst, _∙_}
 use mathlib.Core.Bool.{Bool, true, false, cond}
-use mathlib.Core.List.{List, [], _∷_}
+use mathlib.Core.List.{List}
 use native.Mathlib.Omega.{arith}
 use native.Mathlib.Nat.{not-suc-le-zero}
 use lib.ListN.{length, getD, replicate, length-replicate}
 use lib.Dec.{eqb}
-use Rattle.sorts.specs.Blank.{blankRow}
 use Rattle.rows.specs.Form.{rowsOut}
-use Rattle.rows.proofs.Shown.{blank-shown, shown-form, shown-out}
+use Rattle.rows.proofs.Shown.{blank-shown, shown-form}
 use Rattle.rows.proofs.Bytes.{no-true}
-use Rattle.reader.specs.Bytes.{Outcome, got, refused}
-use Rattle.reader.specs.Records.{Record, TG, ST, LI, WD, QU, readRecord}
-use Rattle.rules.specs.Rules.{Set, Closed}
-use Rattle.rules.specs.Standing.{In, Above, Bits, blank, standing}
-use Rattle.rules.proofs.Standing.{standing-in, standing-length, standing-bits, blank-length, blank-bits, blank-none}
+use Rattle.reader.specs.Records.{readRecord}
+use Rattle.rules.specs.Rules.{Closed}
+use Rattle.rules.specs.Standing.{In, standing}
+use Rattle.rules.proofs.Standing.{standing-in, standing-length, standing-bits}
 use Rattle.rules.proofs.Saturation.{same-marks, zeroes-bits, zeroes-none}
 use Rattle.book.specs.declared.Book.{Book}
 use Rattle.book.specs.declared.Answer.{Answer}
-use Rattle.book.specs.declared.Answer.the-variants.{Permitted, NotPermitted, Changed, Refused}
+use Rattle.book.specs.declared.Answer.the-variants.{Permitted, NotPermitted}
 use Rattle.book.specs.declared.Answered.{Answered}
-use Rattle.book.specs.Machine.{State, Verdict, changes, asks, refuses, start, act, acted, step, hasLicence}
+use Rattle.book.specs.Machine.{State, Verdict, changes, asks, refuses, start, step, hasLicence}
 use Rattle.book.specs.Counts.{gains, ones, countsOf}
 use Rattle.book.specs.Books.{tableOf, BookForm, Shows}
 use Rattle.book.specs.Calls.{answerOf, marksAfter, Follows, Called}
 use Rattle.book.specs.Chains.{freshBook, freshMarks, gainedBy, lostBy}
 use Rattle.book.proofs.Balance.{balance, none-gained}
 use Rattle.book.proofs.Forms.{table-rows}
-use Rattle.book.proofs.Moving.{asks-still, Up, Down, Still}
+use Rattle.book.proofs.Moving.{asks-still, Up, Down}
 use Rattle.book.proofs.Standings.{up-stands, down-stands, still-stands}
 
 -- in form, showing the machine's state, with the standing statements as its marks

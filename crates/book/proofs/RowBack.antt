@@ -1,17 +1,16 @@
 -- A row written out, with its grants as their numbers again, is the row; so rows that show the same grants are the same.
 use Prim.Native.Nat.{ℕ, zero, suc, _+_, _≤_, _<_}
-use mathlib.Core.Path.{_≡_, refl, sym, ap, subst, _∙_}
-use mathlib.Core.List.{List, [], _∷_}
+use mathlib.Core.Path.{_≡_, refl, sym, ap, _∙_}
+use mathlib.Core.List.{List, _∷_}
 use native.Mathlib.Omega.{arith}
 use native.Mathlib.Numerals.{add-one}
 use lib.ListN.{length, getD, drop, List·getD-append}
 use lib.Seq.{drop-cons, drop-length}
-use Rattle.sorts.specs.declared.Prin.{Prin}
 use Rattle.sorts.specs.declared.Cond.{Cond}
 use Rattle.sorts.specs.declared.Row.{Row}
 use Rattle.sorts.specs.Blank.{blankCond, noRow}
-use Rattle.rows.specs.Written.{Grant, Conds, none, also, howMany}
-use Rattle.rows.specs.Form.{noGrant, conclOf, condsOf, rowOf, writeConcl, writeConds, writeRow}
+use Rattle.rows.specs.Written.{Grant, none, howMany}
+use Rattle.rows.specs.Form.{noGrant, condsOf, rowOf, writeConds, writeRow}
 use Rattle.rows.proofs.Place.{Distinct}
 use Rattle.rows.proofs.RowSame.{row-path}
 use Rattle.rows.proofs.Rows.{ConclBelow, RowBelow, row-ext}

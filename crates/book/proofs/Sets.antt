@@ -6,9 +6,9 @@ use mathlib.Core.List.{List, [], _∷_, _++_}
 use native.Mathlib.Omega.{arith}
 use native.Mathlib.Nat.{not-suc-le-zero, le-refl}
 use native.Mathlib.Decide.{ℕ-discrete}
-use lib.ListN.{length, getD}
+use lib.ListN.{length}
 use lib.Dec.{eqb, ltb, leb·suc-suc}
-use borrow.Author.Tests.{eqb-true, eq-eqb, lt-ltb, ltb-true}
+use borrow.Author.Tests.{eqb-true, eq-eqb, lt-ltb}
 use Rattle.rows.specs.Written.{Grant, same}
 use Rattle.rows.specs.Numbering.{place, has, add}
 use Rattle.rows.proofs.Bytes.{same-eq, same-refl, no-true}
@@ -95,7 +95,7 @@ module _ {A : Type 0} (eq : A → A → Bool) (eq-is : (x y : A) → eq x y ≡ 
       wider w = let l = w .1 in (w .0, omega arith, w .2, w .3)
 
       go : (b : Bool) → f n ≡ b → (c : Bool) → eq y (x n) ≡ c → member y (cond b (x n ∷ collect n f x) (collect n f x)) ≡ true →
-        (member y (collect n f x) ≡ true → (i : ℕ) × (i < n) × (f i ≡ true) × (x i ≡ y)) → (i : ℕ) × (i < suc n) × (f i ≡ true) × (x i ≡ y)
+          (member y (collect n f x) ≡ true → (i : ℕ) × (i < n) × (f i ≡ true) × (x i ≡ y)) → (i : ℕ) × (i < suc n) × (f i ≡ true) × (x i ≡ y)
       go true p true q h ih = (n, le-refl (suc n), p, sym (eq-is y (x n) q))
       go true p false q h ih = wider (ih (sym (ap (λ (c : Bool). cond c true (member y (collect n f x))) q) ∙ h))
       go false p c q h ih = wider (ih h)

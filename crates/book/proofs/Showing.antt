@@ -1,18 +1,18 @@
 -- What a book shows, for trusted grants and licences alike: a flag for each way to stand.
 use Prim.Native.Nat.{ℕ, _+_, _*_, _≤_, _<_}
 use mathlib.Core.Path.{_≡_, refl, sym, ap, subst, _∙_}
-use mathlib.Core.Bool.{Bool, true, false, cond}
-use mathlib.Core.List.{List, _++_}
+use mathlib.Core.Bool.{Bool, true, false}
+use mathlib.Core.List.{List}
 use native.Mathlib.Omega.{arith}
 use native.Mathlib.Decide.{ℕ-discrete, decLt}
-use lib.ListN.{length, getD, set, length-append, length-set, List·getD-append}
+use lib.ListN.{length, getD, set, List·getD-append}
 use lib.Seq.{getD-set-same, getD-set-other}
 use Rattle.sorts.specs.declared.Prin.{Prin}
 use Rattle.sorts.proofs.Marks.{prin-is}
 use Rattle.rows.specs.declared.Table.{Table}
 use Rattle.rows.specs.Written.{Grant, same}
 use Rattle.rows.specs.Numbering.{place, has}
-use Rattle.rows.specs.Form.{noGrant, rowsOut, TableForm}
+use Rattle.rows.specs.Form.{noGrant, rowsOut}
 use Rattle.rows.proofs.Bytes.{no-true, same-eq, same-refl}
 use Rattle.rows.proofs.Place.{Distinct, place-at, has-in, has-lt}
 use Rattle.reader.specs.declared.records.Standing.{Standing}
@@ -20,7 +20,7 @@ use Rattle.reader.specs.declared.records.Standing.the-variants.{Trusted, Issued
 use Rattle.reader.proofs.Fuse.{Ext, ext-length}
 use Rattle.rules.specs.Rules.{flag}
 use Rattle.book.specs.declared.Book.{Book}
-use Rattle.book.specs.Machine.{State, Licence, hasLicence}
+use Rattle.book.specs.Machine.{State, hasLicence}
 use Rattle.book.specs.Closed.{grantAt}
 use Rattle.book.specs.Books.{bit, Shows}
 use Rattle.book.specs.inner.Apply.{placeOf, flagged}

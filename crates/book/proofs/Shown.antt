@@ -1,7 +1,7 @@
 -- Every book in form shows a state of the plain machine: N the rows written out, T and L from the flags.
 use Prim.Native.Nat.{ℕ, _+_, _*_, _/_, _%_, _≤_, _<_}
 use mathlib.Core.Path.{_≡_, refl, sym, ap, subst, _∙_}
-use mathlib.Core.Bool.{Bool, true, false, cond}
+use mathlib.Core.Bool.{Bool, true, false}
 use mathlib.Core.List.{List}
 use native.Mathlib.Omega.{arith}
 use lib.ListN.{length, getD}
@@ -72,37 +72,42 @@ module _ (b : Book) (m : List ℕ) (f : BookForm b m) where
       flag-bit (flag (b .flags) g 0) (has (grantOf g) T) (f .flagBits (17 * g + 0))
       (λ e. has-member (grantOf g) T ∙ collect-member same same-eq same-refl (b .count) isTrusted grantOf g (omega (arith, len)) (eq-eqb (flag (b .flags) g 0) 1 e))
       (λ e.
-        let w = trusted-from (grantOf g) e in
-        let wl = w .1 in
-        let d : w .0 ≡ g = S .distinct (w .0) g (omega (arith, len)) l (w .3) in
-        ap (λ (i : ℕ). flag (b .flags) i 0) (sym d) ∙ eqb-true (flag (b .flags) (w .0) 0) 1 (w .2))
+      let w = trusted-from (grantOf g) e in
+      let wl = w .1 in
+      let d : w .0 ≡ g = S .distinct (w .0) g (omega (arith, len)) l (w .3) in
+      ap (λ (i : ℕ). flag (b .flags) i 0) (sym d) ∙ eqb-true (flag (b .flags) (w .0) 0) 1 (w .2))
 
   issued-is : (g p : ℕ) → g < length N → p < 16 → flag (b .flags) g (1 + p) ≡ bit (hasLicence (record { issuer = p; what = grantOf g }) L)
   unfolding L
   issued-is g p l k =
       flag-bit (flag (b .flags) g (1 + p)) (hasLicence (record { issuer = p; what = grantOf g }) L) (f .flagBits (17 * g + (1 + p)))
       (λ e. licence-member (record { issuer = p; what = grantOf g }) L ∙ subst (λ (x : Licence). member sameLicence licence-eq licence-refl x L ≡ true) here
-        (collect-member sameLicence licence-eq licence-refl (16 * b .count) isIssued licenceOf (16 * g + p) (omega (arith, len)) (eq-eqb _ 1 (flag-at ∙ e))))
+      (collect-member sameLicence licence-eq licence-refl (16 * b .count) isIssued licenceOf (16 * g + p) (omega (arith, len)) (eq-eqb _ 1 (flag-at ∙ e))))
       (λ e.
-        let w = issued-from (record { issuer = p; what = grantOf g }) e in
-        let wl = w .1 in
-        let c : grantOf (w .0 / 16) ≡ grantOf g = ap (λ (x : Licence). x .what) (w .3) in
-        let d : w .0 / 16 ≡ g = S .distinct (w .0 / 16) g (omega (arith, len)) l c in
-        let q : w .0 % 16 ≡ p = ap (λ (x : Licence). x .issuer) (w .3) in
-        (λ i. flag (b .flags) (sym d i) (1 + sym q i)) ∙ eqb-true (flag (b .flags) (w .0 / 16) (1 + w .0 % 16)) 1 (w .2))
+      let w = issued-from (record { issuer = p; what = grantOf g }) e in
+      let wl = w .1 in
+      let c : grantOf (w .0 / 16) ≡ grantOf g = ap (λ (x : Licence). x .what) (w .3) in
+      let d : w .0 / 16 ≡ g = S .distinct (w .0 / 16) g (omega (arith, len)) l c in
+      let q : w .0 % 16 ≡ p = ap (λ (x : Licence). x .issuer) (w .3) in
+      (λ i. flag (b .flags) (sym d i) (1 + sym q i)) ∙ eqb-true (flag (b .flags) (w .0 / 16) (1 + w .0 % 16)) 1 (w .2))
     where
       quot : (16 * g + p) / 16 ≡ g
       quot = omega arith
+
       rest : (16 * g + p) % 16 ≡ p
       rest = omega arith
+
       here : licenceOf (16 * g + p) ≡ record { issuer = p; what = grantOf g }
       here = λ i. record { issuer = rest i; what = grantOf (quot i) }
+
       flag-at : flag (b .flags) ((16 * g + p) / 16) (1 + (16 * g + p) % 16) ≡ flag (b .flags) g (1 + p)
       flag-at = λ i. flag (b .flags) (quot i) (1 + rest i)
 
   -- the state that the book shows
   pub shows-some : (M : State) × Shows b M
-  shows-some = (record { T = T; L = L; N = N }, record {
+  shows-some = (
+    record { T = T; L = L; N = N },
+    record {
       rows = refl;
       trusted = trusted-is;
       issued = issued-is;
@@ -111,4 +116,6 @@ module _ (b : Book) (m : List ℕ) (f : BookForm b m) where
           let w = issued-from x e in
           let l = w .1 in
           let i : w .0 % 16 ≡ x .issuer = ap (λ (y : Licence). y .issuer) (w .3) in
-          (has-in (x .what) N (w .0 / 16) (omega (arith, len)) (ap (λ (y : Licence). y .what) (w .3)), omega arith) })
+          (has-in (x .what) N (w .0 / 16) (omega (arith, len)) (ap (λ (y : Licence). y .what) (w .3)), omega arith);
+    },
+  )

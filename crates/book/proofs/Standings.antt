@@ -1,7 +1,7 @@
 -- The standing statements of two books, by what stands for the machines that they show.
-use Prim.Native.Nat.{ℕ, zero, suc, _+_, _*_, _≤_, _<_}
-use mathlib.Core.Path.{_≡_, refl, sym, ap, subst, _∙_}
-use mathlib.Core.Bool.{Bool, true, false}
+use Prim.Native.Nat.{ℕ, zero, suc, _+_, _*_, _<_}
+use mathlib.Core.Path.{_≡_, sym, ap, _∙_}
+use mathlib.Core.Bool.{true}
 use mathlib.Core.List.{List}
 use native.Mathlib.Omega.{arith}
 use lib.ListN.{length, getD, List·getD-append}
@@ -14,7 +14,7 @@ use Rattle.rows.proofs.Shown.{Shown}
 use Rattle.reader.specs.declared.records.Standing.{Standing}
 use Rattle.reader.specs.declared.records.Standing.the-variants.{Trusted, Issued}
 use Rattle.reader.proofs.Fuse.{Ext, ext-length}
-use Rattle.rules.specs.Rules.{Set, flag}
+use Rattle.rules.specs.Rules.{flag}
 use Rattle.rules.specs.Standing.{In, Above, standing}
 use Rattle.rules.proofs.Ground.{Fewer}
 use Rattle.rules.proofs.Standing.{standing-mono, standing-length, standing-bits}
@@ -24,7 +24,7 @@ use Rattle.book.specs.Machine.{State}
 use Rattle.book.specs.Closed.{grantAt}
 use Rattle.book.specs.Books.{tableOf, BookForm, Shows, bit}
 use Rattle.book.specs.inner.Apply.{placeOf}
-use Rattle.book.proofs.Showing.{Known, standsIn, Uniform, shows-uniform}
+use Rattle.book.proofs.Showing.{Known, standsIn, shows-uniform}
 use Rattle.book.proofs.Forms.{table-rows}
 use Rattle.book.proofs.RowBack.{shown-more}
 use Rattle.book.proofs.ClosedBook.{shown, flag-below, bit-set}

@@ -1,7 +1,7 @@
 -- A book, its form, and the state of the plain machine that it shows.
 use Prim.Native.Nat.{ℕ, _+_, _*_, _≤_, _<_}
 use mathlib.Core.Path.{_≡_}
-use mathlib.Core.Bool.{Bool, true, false, cond}
+use mathlib.Core.Bool.{Bool, true, cond}
 use mathlib.Core.List.{List}
 use lib.ListN.{length, getD}
 use Rattle.sorts.specs.Numbers.{allMarks}

@@ -1,16 +1,14 @@
 -- Lists of calls from a fresh book.
-use Prim.Native.Nat.{ℕ, zero, suc, _+_}
-use mathlib.Core.Path.{_≡_}
+use Prim.Native.Nat.{ℕ, _+_}
 use mathlib.Core.List.{List, [], _∷_}
 use lib.ListN.{replicate}
 use Rattle.sorts.specs.Blank.{blankRow}
 use Rattle.sorts.specs.Numbers.{allMarks}
 use Rattle.book.specs.declared.Book.{Book}
-use Rattle.book.specs.declared.Counts.{Counts}
 use Rattle.book.specs.declared.Answer.{Answer}
 use Rattle.book.specs.declared.Answer.the-variants.{Permitted, NotPermitted, Changed, Refused}
 use Rattle.book.specs.declared.Answered.{Answered}
-use Rattle.book.specs.Machine.{State, start, step}
+use Rattle.book.specs.Machine.{State, step}
 use Rattle.book.specs.Calls.{Called}
 
 -- "A fresh book has blank rows, count 0, and every flag and mark 0."

@@ -1,10 +1,10 @@
 -- Document 01: "The answer has three counts against the marks before: gained, the marks that went from 0 to 1 in that call;
 -- lost, those that went from 1 to 0; and the net, which is gained less lost and may be below zero."
-use Prim.Native.Nat.{ℕ, zero, suc, _+_}
+use Prim.Native.Nat.{ℕ, zero, _+_}
 use mathlib.Core.Bool.{cond, _&&_}
 use mathlib.Core.List.{List, [], _∷_}
 use lib.Dec.{eqb}
-use lib.IntN.{ℤ, pos, _-ℤ_}
+use lib.IntN.{pos, _-ℤ_}
 use Rattle.book.specs.declared.Counts.{Counts}
 
 -- 1 where a mark went from 0 to 1

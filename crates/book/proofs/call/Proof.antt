@@ -1,7 +1,7 @@
-use mathlib.Core.Path.{subst, sym, ap, _∙_}
+use mathlib.Core.Path.{subst}
 use Rattle.rows.specs.declared.Table.{Table}
 use Rattle.reader.specs.Requests.{Reads}
-use Rattle.book.specs.Books.{BookForm, tableOf}
+use Rattle.book.specs.Books.{BookForm}
 use Rattle.book.proofs.Decided.{decided-no, decided-yes}
 use Rattle.book.proofs.Following.{ready}
 use Rattle.book.proofs.Keeping.{called-unformed, called-formed}

@@ -1,4 +1,3 @@
-use mathlib.Core.Path.{_∙_}
 use borrow.Author.Needs.{needs}
 use Rattle.book.proofs.change.Statement.{statement}
 use Rattle.book.proofs.change.Tie as tie

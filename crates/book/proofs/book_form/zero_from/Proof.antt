@@ -2,7 +2,6 @@ use Prim.Native.Nat.{ℕ, _≤_, _<_, _-_}
 use mathlib.Core.Path.{_≡_}
 use native.Mathlib.Omega.{arith}
 use borrow.Author.Needs.{needs}
-use borrow.Author.Count.{below-more}
 use lib.ListN.{length, getD}
 use Rattle.book.proofs.Loops.{all-zero, zero-more}
 use Rattle.book.proofs.book_form.zero_from.Statement.{statement}

@@ -1,0 +1,105 @@
+//! The checks of one case against the program.
+
+use crate::case::{Case, Expected};
+use crate::program::Program;
+use crate::properties::{answers, sums_and_signs};
+use crate::random::Random;
+use crate::write::Bytes;
+use reference::listing::{listing, LONGEST_JOURNAL};
+use reference::reader::read_record;
+
+pub const SUMS_AND_SIGNS: &str = "property: sums and signs of the nets";
+pub const REFUSED_REMOVED: &str = "property: later answers without a refused record";
+pub const REFERENCE_WRITTEN: &str = "the reference against the written answers";
+
+/// The result of one check, with what went wrong.
+pub struct Check {
+    pub group: &'static str,
+    pub fault: Option<String>,
+}
+
+/// Runs the program on the case's journal and judges what it prints.
+pub fn check(program: &Program, case: &Case, expected: &str, seed: u64) -> Vec<Check> {
+    let mut checks = Vec::new();
+    if let Expected::Written(text) = &case.expected {
+        let fault = difference(text, &listing(&case.journal));
+        checks.push(Check { group: REFERENCE_WRITTEN, fault });
+    }
+    let printed = match program.listing(&case.journal) {
+        Ok(printed) => printed,
+        Err(error) => {
+            checks.push(Check { group: case.group, fault: Some(error) });
+            return checks;
+        }
+    };
+    checks.push(Check { group: case.group, fault: difference(expected, &printed) });
+    if case.journal.len() <= LONGEST_JOURNAL {
+        checks.push(Check { group: SUMS_AND_SIGNS, fault: sums_and_signs(&printed).err() });
+        checks.extend(without_refused(program, case, &printed, seed));
+    }
+    checks
+}
+
+/// The first line in which two listings differ.
+fn difference(expected: &str, printed: &str) -> Option<String> {
+    if expected == printed {
+        return None;
+    }
+    let mut wanted = expected.split_inclusive('\n');
+    let mut found = printed.split_inclusive('\n');
+    loop {
+        match (wanted.next(), found.next()) {
+            (Some(want), Some(have)) if want == have => {}
+            (None, None) => return None,
+            (want, have) => {
+                let (want, have) = (want.unwrap_or(""), have.unwrap_or(""));
+                return Some(format!("expected {want:?}, printed {have:?}"));
+            }
+        }
+    }
+}
+
+/// Takes some of the records that the program refused with 6 or 7 out of the
+/// journal; the other records must have the answers they had.
+fn without_refused(program: &Program, case: &Case, printed: &str, seed: u64) -> Option<Check> {
+    let answered = answers(printed);
+    let removed = some_refused(&answered, &mut Random::new(seed, &case.name))?;
+    let shorter = take_out(&case.journal, &removed);
+    let places = answered.into_iter().enumerate();
+    let kept: Vec<&str> =
+        places.filter(|(place, _)| !removed.contains(place)).map(|(_, answer)| answer).collect();
+    let fault = match program.listing(&shorter) {
+        Ok(again) if answers(&again) == kept => None,
+        Ok(_) => Some(format!("answers change without the records {removed:?} (from 0)")),
+        Err(error) => Some(error),
+    };
+    Some(Check { group: REFUSED_REMOVED, fault })
+}
+
+/// The places of one or more answers that are refusals 6 or 7, if there are any.
+fn some_refused(answered: &[&str], random: &mut Random) -> Option<Vec<usize>> {
+    let is_refused = |place: &usize| matches!(answered[*place], "refused 6" | "refused 7");
+    let refused: Vec<usize> = (0..answered.len()).filter(is_refused).collect();
+    if refused.is_empty() {
+        return None;
+    }
+    let always = *random.choose(&refused);
+    Some(refused.into_iter().filter(|&place| place == always || random.percent(50)).collect())
+}
+
+/// The journal without the records at the given places. What cannot be read
+/// any more is kept as it is.
+fn take_out(journal: &[u8], places: &[usize]) -> Bytes {
+    let mut shorter = Vec::new();
+    let mut rest = journal;
+    let mut place = 0;
+    while let Ok((_, length)) = read_record(rest) {
+        if !places.contains(&place) {
+            shorter.extend(&rest[..length]);
+        }
+        rest = &rest[length..];
+        place += 1;
+    }
+    shorter.extend(rest);
+    shorter
+}

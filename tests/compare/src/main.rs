@@ -1,0 +1,102 @@
+//! `compare`: checks a listing program against the documents' examples and
+//! against the comparison evaluator.
+//!
+//! Usage: compare LISTING-PROGRAM [SEED]
+
+mod case;
+mod checks;
+mod circles;
+mod conditions;
+mod document000;
+mod document01;
+mod evaluators;
+mod families;
+mod generate;
+mod lengths;
+mod parallel;
+mod paths;
+mod program;
+mod properties;
+mod random;
+mod report;
+mod tables;
+mod tally;
+mod write;
+
+use case::Case;
+use program::Program;
+use report::Report;
+use std::process::ExitCode;
+use tally::Tally;
+
+const SEED: u64 = 20_260_401;
+
+fn main() -> ExitCode {
+    let arguments: Vec<String> = std::env::args().skip(1).collect();
+    let Some((path, seed)) = read_arguments(&arguments) else {
+        eprintln!("usage: compare LISTING-PROGRAM [SEED]");
+        return ExitCode::from(2);
+    };
+    println!("seed {seed}");
+    let program = Program::new(path);
+    let mut report = Report::default();
+    check_program(&program, &all_cases(seed), seed, &mut report);
+    compare_evaluators(&small_cases(seed), seed, &mut report);
+    match report.finish() {
+        true => ExitCode::SUCCESS,
+        false => ExitCode::FAILURE,
+    }
+}
+
+fn read_arguments(arguments: &[String]) -> Option<(&str, u64)> {
+    match arguments {
+        [path] => Some((path, SEED)),
+        [path, seed] => Some((path, seed.parse().ok()?)),
+        _ => None,
+    }
+}
+
+fn all_cases(seed: u64) -> Vec<Case> {
+    let mut cases = document01::cases();
+    cases.extend(document000::cases());
+    cases.extend(conditions::cases());
+    cases.extend(circles::cases(seed));
+    cases.extend(tables::cases(seed));
+    cases.extend(paths::cases(seed));
+    cases.extend(lengths::cases());
+    cases.extend(families::cases(seed));
+    cases
+}
+
+/// Journals on which the branch-wise lists stay short.
+fn small_cases(seed: u64) -> Vec<Case> {
+    let mut cases = document01::cases();
+    cases.extend(document000::cases());
+    cases.extend(conditions::cases());
+    cases.extend(circles::circles());
+    cases.extend(families::small_journals(seed));
+    cases.extend(families::narrow_journals(seed));
+    cases
+}
+
+fn check_program(program: &Program, cases: &[Case], seed: u64, report: &mut Report) {
+    let results = parallel::map(cases, |case| {
+        let expected = case.expected_listing();
+        (checks::check(program, case, &expected, seed), expected)
+    });
+    let mut tally = Tally::default();
+    for (case, (checks, expected)) in cases.iter().zip(&results) {
+        tally.add(expected);
+        report.add(case, checks);
+    }
+    tally.print();
+}
+
+fn compare_evaluators(cases: &[Case], seed: u64, report: &mut Report) {
+    let results = parallel::map(cases, |case| evaluators::compare(case, seed));
+    for (case, found) in cases.iter().zip(&results) {
+        report.add(case, &found.checks);
+    }
+    let left: usize = results.iter().map(|found| found.left).sum();
+    println!("top-down questions left without an answer (too many steps): {left}");
+}
