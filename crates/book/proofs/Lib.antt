@@ -19,3 +19,4 @@ pub mod Sets
 pub mod Showing
 pub mod Shown
 pub mod Standings
+pub mod Unique

@@ -1,42 +1,31 @@
 use borrow.Author.Needs.{needs}
 use Rattle.book.proofs.flag_place.Statement.{statement}
 use Rattle.book.proofs.flag_place.Tie as tie
-use Rattle.book.proofs.flag_place.Reads as reads
-use Rattle.book.proofs.flag_place.Lts as lts
 
--- src/lib.rt:83:31
 cast-first : tie.Need-cast-first
 cast-first c = search needs
 
--- src/lib.rt:83:17
 mul-first : tie.Need-mul-first
 mul-first c = search needs
 
--- src/lib.rt:85:30
 enum-told : tie.Need-enum-told
 enum-told c = search needs
 
--- src/lib.rt:86:26
 enum-known-by : tie.Need-enum-known-by
 enum-known-by c = search needs
 
--- src/lib.rt:86:45
 cast-result : tie.Need-cast-result
 cast-result c = search needs
 
--- src/lib.rt:86:41
 add-result : tie.Need-add-result
 add-result c = search needs
 
--- src/lib.rt:86:32
 add-result-2 : tie.Need-add-result-2
 add-result-2 c = search needs
 
--- src/lib.rt:80:1
 returns : tie.Need-returns
 returns c = rw (c .enum-told .given .1)
 
--- src/lib.rt:80:1
 returns-2 : tie.Need-returns-2
 returns-2 c = rw (c .before .before .by .given .1)
 

@@ -2,28 +2,19 @@ use borrow.Author.Tests.{eq-eqb, ne-eqb}
 use borrow.Author.Needs.{needs}
 use Rattle.book.proofs.query.Statement.{statement}
 use Rattle.book.proofs.query.Tie as tie
-use Rattle.book.proofs.query.Reads as reads
-use Rattle.book.proofs.query.Lts as lts
-use Rattle.sorts.proofs.Number.of.Reads as of-reads
-use Rattle.sorts.proofs.Number.truth.Reads as truth-reads
 
--- src/lib.rt:153:13
 of-requires : tie.Need-of-requires
 of-requires c κs = search needs
 
--- src/lib.rt:153:9
 truth-requires : tie.Need-truth-requires
 truth-requires c κs = search needs
 
--- src/lib.rt:154:8
 shared-slice-read-if1 : tie.Need-shared-slice-read-if1
 shared-slice-read-if1 c = search needs
 
--- src/lib.rt:142:1
 returns : tie.Need-returns
 returns c = rw (← (c .before .before .before .of) .ensures, ← (c .before .before .truth) .ensures, eq-eqb _ _ ((c .if1) .taken))
 
--- src/lib.rt:142:1
 returns-2 : tie.Need-returns-2
 returns-2 c = rw (← (c .before .before .before .of) .ensures, ← (c .before .before .truth) .ensures, ne-eqb _ _ ((c .if1) .left))
 

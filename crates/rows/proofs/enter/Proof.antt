@@ -3,45 +3,33 @@ use Rattle.rows.specs.inner.Lookup.{entered}
 use borrow.Author.Needs.{needs}
 use Rattle.rows.proofs.enter.Statement.{statement}
 use Rattle.rows.proofs.enter.Tie as tie
-use Rattle.rows.proofs.enter.Reads as reads
-use Rattle.rows.proofs.enter.Lts as lts
-use Rattle.rows.proofs.find.Reads as find-reads
 
--- src/lib.rt:150:9
 find-requires : tie.Need-find-requires
 find-requires c κs = search needs
 
--- src/lib.rt:154:25
 cast-t9 : tie.Need-cast-t9
 cast-t9 c = search needs
 
--- src/lib.rt:152:9
 returns : tie.Need-returns
 unfolding entered
 returns c = (rw (← (c .before .find) .ensures, lt-ltb _ _ ((c .if1) .taken)), (search needs, search needs))
 
--- src/lib.rt:159:9
 mul-rows : tie.Need-mul-rows
 mul-rows c = search needs
 
--- src/lib.rt:159:9
 array-set-from-rows : tie.Need-array-set-from-rows
 array-set-from-rows c = search needs
 
--- src/lib.rt:164:24
 add-t11 : tie.Need-add-t11
 add-t11 c = search needs
 
--- src/lib.rt:167:25
 cast-t16 : tie.Need-cast-t16
 cast-t16 c = search needs
 
--- src/lib.rt:161:9
 returns-2 : tie.Need-returns-2
 unfolding entered
 returns-2 c = (rw (← (c .before .before .before .find) .ensures, le-ltb _ _ ((c .before .before .if1) .left), lt-ltb _ _ ((c .before .if2) .taken)), (search needs, search needs))
 
--- src/lib.rt:143:1
 returns-3 : tie.Need-returns-3
 unfolding entered
 returns-3 c = (rw (← (c .before .before .before .find) .ensures, le-ltb _ _ ((c .before .before .if1) .left), le-ltb _ _ ((c .before .if2) .left)), (search needs, search needs))

@@ -5,9 +5,6 @@ use Rattle.rows.proofs.Steps.{find-end, find-here, find-on}
 use borrow.Author.Needs.{needs}
 use Rattle.rows.proofs.find.Statement.{statement}
 use Rattle.rows.proofs.find.Tie as tie
-use Rattle.rows.proofs.find.Reads as reads
-use Rattle.rows.proofs.find.Lts as lts
-use Rattle.rows.proofs.same_row.Reads as same-row-reads
 
 abbrev Inv-loop : tie.InvT-loop
 Inv-loop r t n i₀ i = (i ≤ n) × (findRow (t .rows) r 0 (t .count) ≡ findRow (t .rows) r i (t .count))
@@ -15,39 +12,30 @@ Inv-loop r t n i₀ i = (i ≤ n) × (findRow (t .rows) r 0 (t .count) ≡ findR
 abbrev μ-loop : tie.MeasureT-loop
 μ-loop r t n i₀ i = n - i
 
--- src/lib.rt:132:5
 loop-holds : tie.Need-loop-holds Inv-loop μ-loop
 loop-holds c = (search needs, refl)
 
--- src/lib.rt:133:17
 mul-x : tie.Need-mul-x Inv-loop μ-loop
 mul-x c = search needs
 
--- src/lib.rt:133:17
 element-copy-out-x : tie.Need-element-copy-out-x Inv-loop μ-loop
 element-copy-out-x c = search needs
 
--- src/lib.rt:134:12
 same-row-requires : tie.Need-same-row-requires Inv-loop μ-loop
 same-row-requires c κs = search needs
 
--- src/lib.rt:135:13
 returns : tie.Need-returns Inv-loop μ-loop
 returns c = sym ((c .before .before .before .before .loop) .inv .1 ∙ find-here _ _ _ _ (search needs) (sym ((c .before .same-row) .ensures) ∙ (c .if1) .taken))
 
--- src/lib.rt:137:9
 add-i : tie.Need-add-i Inv-loop μ-loop
 add-i c = search needs
 
--- src/lib.rt:132:5
 loop-less : tie.Need-loop-less Inv-loop μ-loop
 loop-less c = search needs
 
--- src/lib.rt:132:5
 loop-again : tie.Need-loop-again Inv-loop μ-loop
 loop-again c = (search needs, (c .before .before .before .before .loop) .inv .1 ∙ find-on _ _ _ _ (search needs) (sym ((c .before .same-row) .ensures) ∙ (c .if1) .left))
 
--- src/lib.rt:126:1
 returns-2 : tie.Need-returns-2 Inv-loop μ-loop
 returns-2 c = sym ((c .before .loop) .inv .1 ∙ find-end _ _ _ _ (search needs))
 

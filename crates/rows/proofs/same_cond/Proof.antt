@@ -3,20 +3,14 @@ use Rattle.rows.specs.inner.Lookup.{sameCond, both}
 use borrow.Author.Needs.{needs}
 use Rattle.rows.proofs.same_cond.Statement.{statement}
 use Rattle.rows.proofs.same_cond.Tie as tie
-use Rattle.rows.proofs.same_cond.Reads as reads
-use Rattle.rows.proofs.same_cond.Lts as lts
-use Rattle.rows.proofs.same_concl.Reads as same-concl-reads
 
--- src/lib.rt:90:9
 same-concl-requires : tie.Need-same-concl-requires
 same-concl-requires c κs = search needs
 
--- src/lib.rt:82:1
 returns : tie.Need-returns
 unfolding sameCond both
 returns c = rw (eq-eqb _ _ (c .before .if1 .taken)) (c .same-concl .ensures)
 
--- src/lib.rt:82:1
 returns-2 : tie.Need-returns-2
 unfolding sameCond both
 returns-2 c = rw (ne-eqb _ _ (c .if1 .left))

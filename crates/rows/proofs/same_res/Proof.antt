@@ -2,98 +2,75 @@ use Rattle.rows.specs.inner.Lookup.{sameRes}
 use borrow.Author.Needs.{needs}
 use Rattle.rows.proofs.same_res.Statement.{statement}
 use Rattle.rows.proofs.same_res.Tie as tie
-use Rattle.rows.proofs.same_res.Reads as reads
-use Rattle.rows.proofs.same_res.Lts as lts
 
--- src/lib.rt:35:20
 enum-known-a : tie.Need-enum-known-a
 enum-known-a c = search needs
 
--- src/lib.rt:36:24
 enum-known-b : tie.Need-enum-known-b
 enum-known-b c = search needs
 
--- src/lib.rt:37:28
 enum-told : tie.Need-enum-told
 enum-told c = search needs
 
--- src/lib.rt:38:31
 enum-told-2 : tie.Need-enum-told-2
 enum-told-2 c = search needs
 
--- src/lib.rt:40:18
 enum-known-a-2 : tie.Need-enum-known-a-2
 enum-known-a-2 c = search needs
 
--- src/lib.rt:41:30
 enum-told-3 : tie.Need-enum-told-3
 enum-told-3 c = search needs
 
--- src/lib.rt:42:22
 enum-known-b-2 : tie.Need-enum-known-b-2
 enum-known-b-2 c = search needs
 
--- src/lib.rt:43:31
 enum-told-4 : tie.Need-enum-told-4
 enum-told-4 c = search needs
 
--- src/lib.rt:45:21
 enum-known-a-3 : tie.Need-enum-known-a-3
 enum-known-a-3 c = search needs
 
--- src/lib.rt:46:30
 enum-told-5 : tie.Need-enum-told-5
 enum-told-5 c = search needs
 
--- src/lib.rt:47:28
 enum-told-6 : tie.Need-enum-told-6
 enum-told-6 c = search needs
 
--- src/lib.rt:48:25
 enum-known-b-3 : tie.Need-enum-known-b-3
 enum-known-b-3 c = search needs
 
--- src/lib.rt:31:1
 returns : tie.Need-returns
 unfolding sameRes
 returns c = rw (c .before .before .before .before .before .before .a .given .1, c .before .before .before .b .given .1)
 
--- src/lib.rt:31:1
 returns-2 : tie.Need-returns-2
 unfolding sameRes
 returns-2 c = rw (c .before .before .before .a .given .1, c .enum-told .given .1)
 
--- src/lib.rt:31:1
 returns-3 : tie.Need-returns-3
 unfolding sameRes
 returns-3 c = rw (c .before .before .before .a .given .1, c .enum-told2 .given .1)
 
--- src/lib.rt:31:1
 returns-4 : tie.Need-returns-4
 unfolding sameRes
 returns-4 c = rw (c .before .before .before .a2 .given .1, c .enum-told3 .given .1)
 
--- src/lib.rt:31:1
 returns-5 : tie.Need-returns-5
 unfolding sameRes
 returns-5 c = rw (c .before .before .before .before .before .before .a2 .given .1, c .before .before .before .b2 .given .1)
 
--- src/lib.rt:31:1
 returns-6 : tie.Need-returns-6
 unfolding sameRes
 returns-6 c = rw (c .before .before .before .a2 .given .1, c .enum-told4 .given .1)
 
--- src/lib.rt:31:1
 returns-7 : tie.Need-returns-7
 unfolding sameRes
 returns-7 c = rw (c .before .before .before .a3 .given .1, c .enum-told5 .given .1)
 
--- src/lib.rt:31:1
 returns-8 : tie.Need-returns-8
 unfolding sameRes
 returns-8 c = rw (c .before .before .before .a3 .given .1, c .enum-told6 .given .1)
 
--- src/lib.rt:31:1
 returns-9 : tie.Need-returns-9
 unfolding sameRes
 returns-9 c = rw (c .before .before .before .before .before .before .a3 .given .1, c .before .before .before .b3 .given .1)

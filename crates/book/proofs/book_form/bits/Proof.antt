@@ -6,8 +6,6 @@ use lib.ListN.{length, getD}
 use Rattle.book.proofs.Loops.{all-bits}
 use Rattle.book.proofs.book_form.bits.Statement.{statement}
 use Rattle.book.proofs.book_form.bits.Tie as tie
-use Rattle.book.proofs.book_form.bits.Reads as reads
-use Rattle.book.proofs.book_form.bits.Lts as lts
 
 abbrev Inv-loop : tie.InvT-loop
 Inv-loop s n i₀ i = (i ≤ length s) × ((k : ℕ) → k < i → getD s k 0 ≤ 1)
@@ -15,31 +13,24 @@ Inv-loop s n i₀ i = (i ≤ length s) × ((k : ℕ) → k < i → getD s k 0 �
 abbrev μ-loop : tie.MeasureT-loop
 μ-loop s n i₀ i = length s - i
 
--- src/book_form.rt:18:5
 loop-holds : tie.Need-loop-holds Inv-loop μ-loop
 loop-holds c = (search needs, λ k l. absurd (omega arith))
 
--- src/book_form.rt:19:16
 shared-slice-read-if1 : tie.Need-shared-slice-read-if1 Inv-loop μ-loop
 shared-slice-read-if1 c = search needs
 
--- src/book_form.rt:20:13
 returns : tie.Need-returns Inv-loop μ-loop
 returns c = λ f. omega (arith, f ((c .before .before .before .loop) .i))
 
--- src/book_form.rt:22:9
 add-i : tie.Need-add-i Inv-loop μ-loop
 add-i c = search needs
 
--- src/book_form.rt:18:5
 loop-less : tie.Need-loop-less Inv-loop μ-loop
 loop-less c = search needs
 
--- src/book_form.rt:18:5
 loop-again : tie.Need-loop-again Inv-loop μ-loop
 loop-again c = (search needs, below-more _ _ ((c .before .before .before .loop) .inv .1) ((c .if1) .left))
 
--- src/book_form.rt:13:1
 returns-2 : tie.Need-returns-2 Inv-loop μ-loop
 returns-2 c = all-bits ((c .before .before .args) .s .now) ((c .before .loop) .i) ((c .loop-test) .left) ((c .before .loop) .inv .1)
 

@@ -4,23 +4,17 @@ use Rattle.reader.specs.inner.Answers.{asByte}
 use borrow.Author.Needs.{needs}
 use Rattle.reader.proofs.bytes.read_byte.Statement.{statement}
 use Rattle.reader.proofs.bytes.read_byte.Tie as tie
-use Rattle.reader.proofs.bytes.read_byte.Reads as reads
-use Rattle.reader.proofs.bytes.read_byte.Lts as lts
 
--- src/bytes.rt:31:19
 shared-slice-read-t7 : tie.Need-shared-slice-read-t7
 shared-slice-read-t7 c = search needs
 
--- src/bytes.rt:31:26
 add-t8 : tie.Need-add-t8
 add-t8 c = search needs
 
--- src/bytes.rt:27:1
 returns : tie.Need-returns
 unfolding asByte byteAt
 returns c = simp (lt-ltb _ _ (c .before .if1 .taken))
 
--- src/bytes.rt:27:1
 returns-2 : tie.Need-returns-2
 unfolding asByte byteAt
 returns-2 c = simp (le-ltb _ _ (c .if1 .left))

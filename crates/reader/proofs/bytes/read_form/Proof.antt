@@ -6,43 +6,31 @@ use Rattle.reader.specs.inner.Answers.{asByte}
 use borrow.Author.Needs.{needs}
 use Rattle.reader.proofs.bytes.read_form.Statement.{statement}
 use Rattle.reader.proofs.bytes.read_form.Tie as tie
-use Rattle.reader.proofs.bytes.read_form.Reads as reads
-use Rattle.reader.proofs.bytes.read_form.Lts as lts
-use Rattle.reader.proofs.bytes.read_byte.Reads as read-byte-reads
-use Rattle.reader.proofs.bytes.variable.Reads as variable-reads
 
--- src/bytes.rt:107:11
 read-byte-requires : tie.Need-read-byte-requires
 read-byte-requires c κs = search needs
 
--- src/bytes.rt:108:17
 enum-known-k : tie.Need-enum-known-k
 enum-known-k c = search needs
 
--- src/bytes.rt:109:19
 enum-known-b : tie.Need-enum-known-b
 enum-known-b c = search needs
 
--- src/bytes.rt:111:17
 returns : tie.Need-returns
 unfolding form
 returns c = is-byte (rw (byte-got _ _ _ (sym ((c .before .before .before .before .read-byte) .ensures) ∙ c .before .before .b .given .1), eq-eqb _ _ (c .if1 .taken)))
 
--- src/bytes.rt:114:17
 variable-requires : tie.Need-variable-requires
 variable-requires c κs = search needs
 
--- src/bytes.rt:114:17
 returns-2 : tie.Need-returns-2
 unfolding form
 returns-2 c = (c .variable) .ensures ∙ ap asByte (sym (rw (byte-got _ _ _ (sym ((c .before .before .before .before .before .before .before .read-byte) .ensures) ∙ c .before .before .before .before .before .b .given .1), ne-eqb _ _ (c .before .before .before .if1 .left), eq-eqb _ _ (c .before .before .if2 .taken))))
 
--- src/bytes.rt:104:1
 returns-3 : tie.Need-returns-3
 unfolding form
 returns-3 c = is-no (rw (byte-no _ _ (sym ((c .before .before .before .read-byte) .ensures) ∙ c .before .k .given .1)))
 
--- src/bytes.rt:104:1
 returns-4 : tie.Need-returns-4
 unfolding form
 returns-4 c = is-no (rw (byte-got _ _ _ (sym ((c .before .before .before .before .before .read-byte) .ensures) ∙ c .before .before .before .b .given .1), ne-eqb _ _ (c .before .if1 .left), ne-eqb _ _ (c .if2 .left)))

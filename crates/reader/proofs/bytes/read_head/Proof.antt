@@ -5,62 +5,46 @@ use Rattle.reader.proofs.Answers.{byte-got, byte-no}
 use borrow.Author.Needs.{needs}
 use Rattle.reader.proofs.bytes.read_head.Statement.{statement}
 use Rattle.reader.proofs.bytes.read_head.Tie as tie
-use Rattle.reader.proofs.bytes.read_head.Reads as reads
-use Rattle.reader.proofs.bytes.read_head.Lts as lts
-use Rattle.reader.proofs.bytes.read_upto.Reads as read-upto-reads
 
--- src/bytes.rt:125:11
 read-upto-requires : tie.Need-read-upto-requires
 read-upto-requires c κs = search needs
 
--- src/bytes.rt:126:17
 enum-known-k : tie.Need-enum-known-k
 enum-known-k c = search needs
 
--- src/bytes.rt:127:19
 enum-known-prins : tie.Need-enum-known-prins
 enum-known-prins c = search needs
 
--- src/bytes.rt:127:39
 read-upto-requires-2 : tie.Need-read-upto-requires-2
 read-upto-requires-2 c κs = search needs
 
--- src/bytes.rt:128:21
 enum-known-k-2 : tie.Need-enum-known-k-2
 enum-known-k-2 c = search needs
 
--- src/bytes.rt:129:23
 enum-known-res : tie.Need-enum-known-res
 enum-known-res c = search needs
 
--- src/bytes.rt:129:41
 read-upto-requires-3 : tie.Need-read-upto-requires-3
 read-upto-requires-3 c κs = search needs
 
--- src/bytes.rt:130:25
 enum-known-k-3 : tie.Need-enum-known-k-3
 enum-known-k-3 c = search needs
 
--- src/bytes.rt:131:27
 enum-known-count : tie.Need-enum-known-count
 enum-known-count c = search needs
 
--- src/bytes.rt:122:1
 returns : tie.Need-returns
 unfolding asHead head
 returns c = rw (byte-no _ _ (sym ((c .before .before .before .read-upto) .ensures) ∙ c .before .k .given .1))
 
--- src/bytes.rt:122:1
 returns-2 : tie.Need-returns-2
 unfolding asHead head
 returns-2 c = rw (byte-got _ _ _ (sym ((c .before .before .before .before .before .before .before .read-upto) .ensures) ∙ c .before .before .before .before .before .prins .given .1), byte-no _ _ (sym ((c .before .before .before .read-upto2) .ensures) ∙ c .before .k2 .given .1))
 
--- src/bytes.rt:122:1
 returns-3 : tie.Need-returns-3
 unfolding asHead head
 returns-3 c = rw (byte-got _ _ _ (sym ((c .before .before .before .before .before .before .before .before .before .before .before .read-upto) .ensures) ∙ c .before .before .before .before .before .before .before .before .before .prins .given .1), byte-got _ _ _ (sym ((c .before .before .before .before .before .before .before .read-upto2) .ensures) ∙ c .before .before .before .before .before .res .given .1), byte-no _ _ (sym ((c .before .before .before .read-upto3) .ensures) ∙ c .before .k3 .given .1))
 
--- src/bytes.rt:122:1
 returns-4 : tie.Need-returns-4
 unfolding asHead head
 returns-4 c = rw (byte-got _ _ _ (sym ((c .before .before .before .before .before .before .before .before .before .before .before .read-upto) .ensures) ∙ c .before .before .before .before .before .before .before .before .before .prins .given .1), byte-got _ _ _ (sym ((c .before .before .before .before .before .before .before .read-upto2) .ensures) ∙ c .before .before .before .before .before .res .given .1), byte-got _ _ _ (sym ((c .before .before .before .read-upto3) .ensures) ∙ c .before .count .given .1))

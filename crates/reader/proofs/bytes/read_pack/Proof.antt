@@ -6,43 +6,31 @@ use Rattle.reader.specs.inner.Answers.{asByte}
 use borrow.Author.Needs.{needs}
 use Rattle.reader.proofs.bytes.read_pack.Statement.{statement}
 use Rattle.reader.proofs.bytes.read_pack.Tie as tie
-use Rattle.reader.proofs.bytes.read_pack.Reads as reads
-use Rattle.reader.proofs.bytes.read_pack.Lts as lts
-use Rattle.reader.proofs.bytes.read_byte.Reads as read-byte-reads
-use Rattle.reader.proofs.bytes.variable.Reads as variable-reads
 
--- src/bytes.rt:89:11
 read-byte-requires : tie.Need-read-byte-requires
 read-byte-requires c κs = search needs
 
--- src/bytes.rt:90:17
 enum-known-k : tie.Need-enum-known-k
 enum-known-k c = search needs
 
--- src/bytes.rt:91:19
 enum-known-b : tie.Need-enum-known-b
 enum-known-b c = search needs
 
--- src/bytes.rt:93:17
 returns : tie.Need-returns
 unfolding pack
 returns c = is-byte (rw (byte-got _ _ _ (sym ((c .before .before .before .before .read-byte) .ensures) ∙ c .before .before .b .given .1), lt-ltb _ _ (c .if1 .taken)))
 
--- src/bytes.rt:96:17
 variable-requires : tie.Need-variable-requires
 variable-requires c κs = search needs
 
--- src/bytes.rt:96:17
 returns-2 : tie.Need-returns-2
 unfolding pack
 returns-2 c = (c .variable) .ensures ∙ ap asByte (sym (rw (byte-got _ _ _ (sym ((c .before .before .before .before .before .before .before .read-byte) .ensures) ∙ c .before .before .before .before .before .b .given .1), le-ltb _ _ (c .before .before .before .if1 .left), eq-eqb _ _ (c .before .before .if2 .taken))))
 
--- src/bytes.rt:86:1
 returns-3 : tie.Need-returns-3
 unfolding pack
 returns-3 c = is-no (rw (byte-no _ _ (sym ((c .before .before .before .read-byte) .ensures) ∙ c .before .k .given .1)))
 
--- src/bytes.rt:86:1
 returns-4 : tie.Need-returns-4
 unfolding pack
 returns-4 c = is-no (rw (byte-got _ _ _ (sym ((c .before .before .before .before .before .read-byte) .ensures) ∙ c .before .before .before .b .given .1), le-ltb _ _ (c .before .if1 .left), ne-eqb _ _ (c .if2 .left)))

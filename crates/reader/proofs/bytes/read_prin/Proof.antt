@@ -6,52 +6,38 @@ use Rattle.reader.specs.inner.Answers.{asByte}
 use borrow.Author.Needs.{needs}
 use Rattle.reader.proofs.bytes.read_prin.Statement.{statement}
 use Rattle.reader.proofs.bytes.read_prin.Tie as tie
-use Rattle.reader.proofs.bytes.read_prin.Reads as reads
-use Rattle.reader.proofs.bytes.read_prin.Lts as lts
-use Rattle.reader.proofs.bytes.read_byte.Reads as read-byte-reads
-use Rattle.reader.proofs.bytes.variable.Reads as variable-reads
 
--- src/bytes.rt:68:11
 read-byte-requires : tie.Need-read-byte-requires
 read-byte-requires c κs = search needs
 
--- src/bytes.rt:69:17
 enum-known-k : tie.Need-enum-known-k
 enum-known-k c = search needs
 
--- src/bytes.rt:70:19
 enum-known-b : tie.Need-enum-known-b
 enum-known-b c = search needs
 
--- src/bytes.rt:72:17
 returns : tie.Need-returns
 unfolding principal
 returns c = is-byte (rw (byte-got _ _ _ (sym ((c .before .before .before .before .read-byte) .ensures) ∙ c .before .before .b .given .1), lt-ltb _ _ (c .if1 .taken)))
 
--- src/bytes.rt:75:17
 variable-requires : tie.Need-variable-requires
 variable-requires c κs = search needs
 
--- src/bytes.rt:75:17
 returns-2 : tie.Need-returns-2
 unfolding principal
 returns-2 c = (c .variable) .ensures ∙ ap asByte (sym (rw (byte-got _ _ _ (sym ((c .before .before .before .before .before .before .before .read-byte) .ensures) ∙ c .before .before .before .before .before .b .given .1), le-ltb _ _ (c .before .before .before .if1 .left), eq-eqb _ _ (c .before .before .if2 .taken))))
 
--- src/bytes.rt:78:17
 variable-requires-2 : tie.Need-variable-requires-2
 variable-requires-2 c κs = search needs
 
--- src/bytes.rt:78:17
 returns-3 : tie.Need-returns-3
 unfolding principal
 returns-3 c = (c .variable2) .ensures ∙ ap asByte (sym (rw (byte-got _ _ _ (sym ((c .before .before .before .before .before .before .before .before .read-byte) .ensures) ∙ c .before .before .before .before .before .before .b .given .1), le-ltb _ _ (c .before .before .before .before .if1 .left), ne-eqb _ _ (c .before .before .before .if2 .left), eq-eqb _ _ (c .before .before .if3 .taken))))
 
--- src/bytes.rt:65:1
 returns-4 : tie.Need-returns-4
 unfolding principal
 returns-4 c = is-no (rw (byte-no _ _ (sym ((c .before .before .before .read-byte) .ensures) ∙ c .before .k .given .1)))
 
--- src/bytes.rt:65:1
 returns-5 : tie.Need-returns-5
 unfolding principal
 returns-5 c = is-no (rw (byte-got _ _ _ (sym ((c .before .before .before .before .before .before .read-byte) .ensures) ∙ c .before .before .before .before .b .given .1), le-ltb _ _ (c .before .before .if1 .left), ne-eqb _ _ (c .before .if2 .left), ne-eqb _ _ (c .if3 .left)))

@@ -5,33 +5,24 @@ use Rattle.reader.specs.Bytes.{upto}
 use borrow.Author.Needs.{needs}
 use Rattle.reader.proofs.bytes.read_upto.Statement.{statement}
 use Rattle.reader.proofs.bytes.read_upto.Tie as tie
-use Rattle.reader.proofs.bytes.read_upto.Reads as reads
-use Rattle.reader.proofs.bytes.read_upto.Lts as lts
-use Rattle.reader.proofs.bytes.read_byte.Reads as read-byte-reads
 
--- src/bytes.rt:41:11
 read-byte-requires : tie.Need-read-byte-requires
 read-byte-requires c κs = search needs
 
--- src/bytes.rt:42:17
 enum-known-k : tie.Need-enum-known-k
 enum-known-k c = search needs
 
--- src/bytes.rt:43:19
 enum-known-b : tie.Need-enum-known-b
 enum-known-b c = search needs
 
--- src/bytes.rt:38:1
 returns : tie.Need-returns
 unfolding upto
 returns c = is-no (rw (byte-no _ _ (sym ((c .before .before .before .read-byte) .ensures) ∙ c .before .k .given .1)))
 
--- src/bytes.rt:38:1
 returns-2 : tie.Need-returns-2
 unfolding upto
 returns-2 c = is-byte (rw (byte-got _ _ _ (sym ((c .before .before .before .before .read-byte) .ensures) ∙ c .before .before .b .given .1), le-leb _ _ (c .if1 .taken)))
 
--- src/bytes.rt:38:1
 returns-3 : tie.Need-returns-3
 unfolding upto
 returns-3 c = is-no (rw (byte-got _ _ _ (sym ((c .before .before .before .before .read-byte) .ensures) ∙ c .before .before .b .given .1), lt-leb _ _ (c .if1 .left)))

@@ -1,15 +1,11 @@
 use Rattle.reader.specs.inner.Answers.{asByte}
 use Rattle.reader.proofs.bytes.variable.Statement.{statement}
 use Rattle.reader.proofs.bytes.variable.Tie as tie
-use Rattle.reader.proofs.bytes.variable.Reads as reads
-use Rattle.reader.proofs.bytes.variable.Lts as lts
 
--- src/bytes.rt:54:1
 returns : tie.Need-returns
 unfolding asByte
 returns c = rw ((c .if1) .taken)
 
--- src/bytes.rt:54:1
 returns-2 : tie.Need-returns-2
 unfolding asByte
 returns-2 c = rw ((c .if1) .left)

@@ -94,7 +94,6 @@ abbrev read-issue-below : ℕ → In 1 read-issue-kinds.ps
 read-issue-below t =
     and 1 read-issue-kinds.ps (falls 1 read-issue-kinds.ps _<_ μ-read-issue t) read-issue.Pre
 
--- src/grants.rt:170:11
 read-concl-read-upto-requires : (t : ℕ) → read-concl-lts.Need-read-upto-requires (
   read-upto-reads.Asked,
   read-upto-reads.Learnt,
@@ -109,7 +108,6 @@ read-concl-read-upto-requires : (t : ℕ) → read-concl-lts.Need-read-upto-requ
 ) (read-concl-at t) read-concl.Post
 read-concl-read-upto-requires t c κs = search needs
 
--- src/grants.rt:171:17
 read-concl-enum-known-k : (t : ℕ) → read-concl-lts.Need-enum-known-k (
   read-upto-reads.Asked,
   read-upto-reads.Learnt,
@@ -124,7 +122,6 @@ read-concl-enum-known-k : (t : ℕ) → read-concl-lts.Need-enum-known-k (
 ) (read-concl-at t) read-concl.Post
 read-concl-enum-known-k t c = search needs
 
--- src/grants.rt:175:19
 read-concl-enum-known-kind : (t : ℕ) → read-concl-lts.Need-enum-known-kind (
   read-upto-reads.Asked,
   read-upto-reads.Learnt,
@@ -139,7 +136,6 @@ read-concl-enum-known-kind : (t : ℕ) → read-concl-lts.Need-enum-known-kind (
 ) (read-concl-at t) read-concl.Post
 read-concl-enum-known-kind t c = search needs
 
--- src/grants.rt:179:26
 read-concl-read-property-requires : (t : ℕ) → read-concl-lts.Need-read-property-requires (
   read-upto-reads.Asked,
   read-upto-reads.Learnt,
@@ -154,7 +150,6 @@ read-concl-read-property-requires : (t : ℕ) → read-concl-lts.Need-read-prope
 ) (read-concl-at t) read-concl.Post
 read-concl-read-property-requires t c κs = search needs
 
--- src/grants.rt:177:17
 read-concl-returns : (t : ℕ) → read-concl-lts.Need-returns (
   read-upto-reads.Asked,
   read-upto-reads.Learnt,
@@ -170,7 +165,6 @@ read-concl-returns : (t : ℕ) → read-concl-lts.Need-returns (
 unfolding numConcl
 read-concl-returns t c = (rw (byte-got _ _ _ (sym ((c .before .before .before .before .before .read-upto) .ensures) ∙ c .before .before .before .kind .given .1), eq-eqb _ _ (c .before .if1 .taken), (c .read-property) .ensures), search needs)
 
--- src/grants.rt:182:19
 read-concl-read-prin-requires : (t : ℕ) → read-concl-lts.Need-read-prin-requires (
   read-upto-reads.Asked,
   read-upto-reads.Learnt,
@@ -185,7 +179,6 @@ read-concl-read-prin-requires : (t : ℕ) → read-concl-lts.Need-read-prin-requ
 ) (read-concl-at t) read-concl.Post
 read-concl-read-prin-requires t c κs = search needs
 
--- src/grants.rt:183:25
 read-concl-enum-known-k-2 : (t : ℕ) → read-concl-lts.Need-enum-known-k-2 (
   read-upto-reads.Asked,
   read-upto-reads.Learnt,
@@ -200,7 +193,6 @@ read-concl-enum-known-k-2 : (t : ℕ) → read-concl-lts.Need-enum-known-k-2 (
 ) (read-concl-at t) read-concl.Post
 read-concl-enum-known-k-2 t c = search needs
 
--- src/grants.rt:187:27
 read-concl-enum-known-p : (t : ℕ) → read-concl-lts.Need-enum-known-p (
   read-upto-reads.Asked,
   read-upto-reads.Learnt,
@@ -215,7 +207,6 @@ read-concl-enum-known-p : (t : ℕ) → read-concl-lts.Need-enum-known-p (
 ) (read-concl-at t) read-concl.Post
 read-concl-enum-known-p t c = search needs
 
--- src/grants.rt:189:25
 read-concl-read-issue-requires : (t : ℕ) → read-concl-lts.Need-read-issue-requires (
   read-upto-reads.Asked,
   read-upto-reads.Learnt,
@@ -230,7 +221,6 @@ read-concl-read-issue-requires : (t : ℕ) → read-concl-lts.Need-read-issue-re
 ) (read-concl-at t) read-concl.Post
 read-concl-read-issue-requires t c κs = (omega arith, search needs)
 
--- src/grants.rt:193:34
 read-concl-read-packed-requires : (t : ℕ) → read-concl-lts.Need-read-packed-requires (
   read-upto-reads.Asked,
   read-upto-reads.Learnt,
@@ -245,7 +235,6 @@ read-concl-read-packed-requires : (t : ℕ) → read-concl-lts.Need-read-packed-
 ) (read-concl-at t) read-concl.Post
 read-concl-read-packed-requires t c κs = search needs
 
--- src/grants.rt:165:1
 read-concl-returns-2 : (t : ℕ) → read-concl-lts.Need-returns-2 (
   read-upto-reads.Asked,
   read-upto-reads.Learnt,
@@ -261,7 +250,6 @@ read-concl-returns-2 : (t : ℕ) → read-concl-lts.Need-returns-2 (
 unfolding numConcl
 read-concl-returns-2 t c = (rw (byte-no _ _ (sym ((c .before .before .before .read-upto) .ensures) ∙ c .before .k .given .1)), search needs)
 
--- src/grants.rt:165:1
 read-concl-returns-3 : (t : ℕ) → read-concl-lts.Need-returns-3 (
   read-upto-reads.Asked,
   read-upto-reads.Learnt,
@@ -277,7 +265,6 @@ read-concl-returns-3 : (t : ℕ) → read-concl-lts.Need-returns-3 (
 unfolding numConcl
 read-concl-returns-3 t c = (rw (byte-got _ _ _ (sym ((c .before .before .before .before .before .before .before .before .read-upto) .ensures) ∙ c .before .before .before .before .before .before .kind .given .1), ne-eqb _ _ (c .before .before .before .before .if1 .left), byte-no _ _ (sym ((c .before .before .before .read-prin) .ensures) ∙ c .before .k2 .given .1)), search needs)
 
--- src/grants.rt:165:1
 read-concl-returns-4 : (t : ℕ) → read-concl-lts.Need-returns-4 (
   read-upto-reads.Asked,
   read-upto-reads.Learnt,
@@ -293,7 +280,6 @@ read-concl-returns-4 : (t : ℕ) → read-concl-lts.Need-returns-4 (
 unfolding numConcl
 read-concl-returns-4 t c = (rw (byte-got _ _ _ (sym ((c .before .before .before .before .before .before .before .before .before .before .read-upto) .ensures) ∙ c .before .before .before .before .before .before .before .before .kind .given .1), ne-eqb _ _ (c .before .before .before .before .before .before .if1 .left), byte-got _ _ _ (sym ((c .before .before .before .before .before .read-prin) .ensures) ∙ c .before .before .before .p .given .1), eq-eqb _ _ (c .before .if2 .taken)) ((c .read-issue) .ensures .0), search needs)
 
--- src/grants.rt:165:1
 read-concl-returns-5 : (t : ℕ) → read-concl-lts.Need-returns-5 (
   read-upto-reads.Asked,
   read-upto-reads.Learnt,
@@ -309,7 +295,6 @@ read-concl-returns-5 : (t : ℕ) → read-concl-lts.Need-returns-5 (
 unfolding numConcl
 read-concl-returns-5 t c = (rw (byte-got _ _ _ (sym ((c .before .before .before .before .before .before .before .before .before .before .read-upto) .ensures) ∙ c .before .before .before .before .before .before .before .before .kind .given .1), ne-eqb _ _ (c .before .before .before .before .before .before .if1 .left), byte-got _ _ _ (sym ((c .before .before .before .before .before .read-prin) .ensures) ∙ c .before .before .before .p .given .1), ne-eqb _ _ (c .before .if2 .left), (c .read-packed) .ensures), search needs)
 
--- src/grants.rt:132:9
 read-conds-returns : (t : ℕ) → read-conds-lts.Need-returns (
   read-prin-reads.Asked,
   read-prin-reads.Learnt,
@@ -321,7 +306,6 @@ read-conds-returns : (t : ℕ) → read-conds-lts.Need-returns (
 unfolding numConds
 read-conds-returns t c = (rw (c .if1 .taken), search needs)
 
--- src/grants.rt:138:11
 read-conds-read-prin-requires : (t : ℕ) → read-conds-lts.Need-read-prin-requires (
   read-prin-reads.Asked,
   read-prin-reads.Learnt,
@@ -332,7 +316,6 @@ read-conds-read-prin-requires : (t : ℕ) → read-conds-lts.Need-read-prin-requ
 ) (read-conds-at t) read-conds.Post
 read-conds-read-prin-requires t c κs = search needs
 
--- src/grants.rt:139:17
 read-conds-enum-known-n : (t : ℕ) → read-conds-lts.Need-enum-known-n (
   read-prin-reads.Asked,
   read-prin-reads.Learnt,
@@ -343,7 +326,6 @@ read-conds-enum-known-n : (t : ℕ) → read-conds-lts.Need-enum-known-n (
 ) (read-conds-at t) read-conds.Post
 read-conds-enum-known-n t c = search needs
 
--- src/grants.rt:144:19
 read-conds-enum-known-who : (t : ℕ) → read-conds-lts.Need-enum-known-who (
   read-prin-reads.Asked,
   read-prin-reads.Learnt,
@@ -354,7 +336,6 @@ read-conds-enum-known-who : (t : ℕ) → read-conds-lts.Need-enum-known-who (
 ) (read-conds-at t) read-conds.Post
 read-conds-enum-known-who t c = search needs
 
--- src/grants.rt:145:17
 read-conds-read-concl-requires : (t : ℕ) → read-conds-lts.Need-read-concl-requires (
   read-prin-reads.Asked,
   read-prin-reads.Learnt,
@@ -365,7 +346,6 @@ read-conds-read-concl-requires : (t : ℕ) → read-conds-lts.Need-read-concl-re
 ) (read-conds-at t) read-conds.Post
 read-conds-read-concl-requires t c κs = (omega arith, search needs)
 
--- src/grants.rt:149:35
 read-conds-enum-known-o : (t : ℕ) → read-conds-lts.Need-enum-known-o (
   read-prin-reads.Asked,
   read-prin-reads.Learnt,
@@ -376,7 +356,6 @@ read-conds-enum-known-o : (t : ℕ) → read-conds-lts.Need-enum-known-o (
 ) (read-conds-at t) read-conds.Post
 read-conds-enum-known-o t c = search needs
 
--- src/grants.rt:154:31
 read-conds-enum-known-o-2 : (t : ℕ) → read-conds-lts.Need-enum-known-o-2 (
   read-prin-reads.Asked,
   read-prin-reads.Learnt,
@@ -387,7 +366,6 @@ read-conds-enum-known-o-2 : (t : ℕ) → read-conds-lts.Need-enum-known-o-2 (
 ) (read-conds-at t) read-conds.Post
 read-conds-enum-known-o-2 t c = search needs
 
--- src/grants.rt:156:21
 read-conds-mul-more : (t : ℕ) → read-conds-lts.Need-mul-more (
   read-prin-reads.Asked,
   read-prin-reads.Learnt,
@@ -398,7 +376,6 @@ read-conds-mul-more : (t : ℕ) → read-conds-lts.Need-mul-more (
 ) (read-conds-at t) read-conds.Post
 read-conds-mul-more t c = search needs
 
--- src/grants.rt:156:21
 read-conds-array-set-from-more : (t : ℕ) → read-conds-lts.Need-array-set-from-more (
   read-prin-reads.Asked,
   read-prin-reads.Learnt,
@@ -409,7 +386,6 @@ read-conds-array-set-from-more : (t : ℕ) → read-conds-lts.Need-array-set-fro
 ) (read-conds-at t) read-conds.Post
 read-conds-array-set-from-more t c = search needs
 
--- src/grants.rt:157:49
 read-conds-sub-read-conds : (t : ℕ) → read-conds-lts.Need-sub-read-conds (
   read-prin-reads.Asked,
   read-prin-reads.Learnt,
@@ -420,7 +396,6 @@ read-conds-sub-read-conds : (t : ℕ) → read-conds-lts.Need-sub-read-conds (
 ) (read-conds-at t) read-conds.Post
 read-conds-sub-read-conds t c = search needs
 
--- src/grants.rt:157:56
 read-conds-add-read-conds : (t : ℕ) → read-conds-lts.Need-add-read-conds (
   read-prin-reads.Asked,
   read-prin-reads.Learnt,
@@ -431,7 +406,6 @@ read-conds-add-read-conds : (t : ℕ) → read-conds-lts.Need-add-read-conds (
 ) (read-conds-at t) read-conds.Post
 read-conds-add-read-conds t c = search needs
 
--- src/grants.rt:157:21
 read-conds-read-conds-requires : (t : ℕ) → read-conds-lts.Need-read-conds-requires (
   read-prin-reads.Asked,
   read-prin-reads.Learnt,
@@ -442,7 +416,6 @@ read-conds-read-conds-requires : (t : ℕ) → read-conds-lts.Need-read-conds-re
 ) (read-conds-at t) read-conds.Post
 read-conds-read-conds-requires t c κs = (omega arith, search needs)
 
--- src/grants.rt:116:1
 read-conds-returns-2 : (t : ℕ) → read-conds-lts.Need-returns-2 (
   read-prin-reads.Asked,
   read-prin-reads.Learnt,
@@ -454,7 +427,6 @@ read-conds-returns-2 : (t : ℕ) → read-conds-lts.Need-returns-2 (
 unfolding numConds
 read-conds-returns-2 t c = (rw (conds-step _ _ _ _ _ _ _ _ (c .before .before .before .before .if1 .left), byte-no _ _ (sym ((c .before .before .before .read-prin) .ensures) ∙ c .before .n .given .1)), search needs)
 
--- src/grants.rt:116:1
 read-conds-returns-3 : (t : ℕ) → read-conds-lts.Need-returns-3 (
   read-prin-reads.Asked,
   read-prin-reads.Learnt,
@@ -466,7 +438,6 @@ read-conds-returns-3 : (t : ℕ) → read-conds-lts.Need-returns-3 (
 unfolding numConds
 read-conds-returns-3 t c = (rw (conds-step _ _ _ _ _ _ _ _ (c .before .before .before .before .before .before .before .before .before .if1 .left), byte-got _ _ _ (sym ((c .before .before .before .before .before .before .before .before .read-prin) .ensures) ∙ c .before .before .before .before .before .before .who .given .1), ← (c .before .before .before .before .read-concl) .ensures .0, c .before .o .given .1), search needs)
 
--- src/grants.rt:116:1
 read-conds-returns-4 : (t : ℕ) → read-conds-lts.Need-returns-4 (
   read-prin-reads.Asked,
   read-prin-reads.Learnt,
@@ -478,7 +449,6 @@ read-conds-returns-4 : (t : ℕ) → read-conds-lts.Need-returns-4 (
 unfolding numConds
 read-conds-returns-4 t c = (rw (conds-step _ _ _ _ _ _ _ _ (c .before .before .before .before .before .before .before .before .before .before .if1 .left), byte-got _ _ _ (sym ((c .before .before .before .before .before .before .before .before .before .read-prin) .ensures) ∙ c .before .before .before .before .before .before .before .who .given .1), ← (c .before .before .before .before .before .read-concl) .ensures .0, c .before .before .o2 .given .1) ((c .read-conds) .ensures .0), search needs)
 
--- src/grants.rt:51:9
 read-grant-returns : (t : ℕ) → read-grant-lts.Need-returns (
   read-head-reads.Asked,
   read-head-reads.Learnt,
@@ -492,7 +462,6 @@ read-grant-returns : (t : ℕ) → read-grant-lts.Need-returns (
 unfolding numGrant numWith
 read-grant-returns t c = (rw (c .if1 .taken), search needs)
 
--- src/grants.rt:56:17
 read-grant-sub-below : (t : ℕ) → read-grant-lts.Need-sub-below (
   read-head-reads.Asked,
   read-head-reads.Learnt,
@@ -505,7 +474,6 @@ read-grant-sub-below : (t : ℕ) → read-grant-lts.Need-sub-below (
 ) (read-grant-at t) read-grant.Post
 read-grant-sub-below t c = search needs
 
--- src/grants.rt:57:11
 read-grant-read-head-requires : (t : ℕ) → read-grant-lts.Need-read-head-requires (
   read-head-reads.Asked,
   read-head-reads.Learnt,
@@ -518,7 +486,6 @@ read-grant-read-head-requires : (t : ℕ) → read-grant-lts.Need-read-head-requ
 ) (read-grant-at t) read-grant.Post
 read-grant-read-head-requires t c κs = search needs
 
--- src/grants.rt:58:21
 read-grant-enum-known-k : (t : ℕ) → read-grant-lts.Need-enum-known-k (
   read-head-reads.Asked,
   read-head-reads.Learnt,
@@ -531,7 +498,6 @@ read-grant-enum-known-k : (t : ℕ) → read-grant-lts.Need-enum-known-k (
 ) (read-grant-at t) read-grant.Post
 read-grant-enum-known-k t c = search needs
 
--- src/grants.rt:62:22
 read-grant-enum-known-v : (t : ℕ) → read-grant-lts.Need-enum-known-v (
   read-head-reads.Asked,
   read-head-reads.Learnt,
@@ -544,7 +510,6 @@ read-grant-enum-known-v : (t : ℕ) → read-grant-lts.Need-enum-known-v (
 ) (read-grant-at t) read-grant.Post
 read-grant-enum-known-v t c = search needs
 
--- src/grants.rt:63:17
 read-grant-blank-requires : (t : ℕ) → read-grant-lts.Need-blank-requires (
   read-head-reads.Asked,
   read-head-reads.Learnt,
@@ -557,7 +522,6 @@ read-grant-blank-requires : (t : ℕ) → read-grant-lts.Need-blank-requires (
 ) (read-grant-at t) read-grant.Post
 read-grant-blank-requires t c κs = search needs
 
--- src/grants.rt:65:17
 read-grant-read-conds-requires : (t : ℕ) → read-grant-lts.Need-read-conds-requires (
   read-head-reads.Asked,
   read-head-reads.Learnt,
@@ -570,7 +534,6 @@ read-grant-read-conds-requires : (t : ℕ) → read-grant-lts.Need-read-conds-re
 ) (read-grant-at t) read-grant.Post
 read-grant-read-conds-requires t c κs = let h = head-is _ _ _ _ (head-got _ _ _ _ (sym ((c .before .before .before .before .read-head) .ensures) ∙ (c .before .before .v) .given .1)) .count in (omega arith, (search needs, omega arith))
 
--- src/grants.rt:66:13
 read-grant-read-granted-requires : (t : ℕ) → read-grant-lts.Need-read-granted-requires (
   read-head-reads.Asked,
   read-head-reads.Learnt,
@@ -583,7 +546,6 @@ read-grant-read-granted-requires : (t : ℕ) → read-grant-lts.Need-read-grante
 ) (read-grant-at t) read-grant.Post
 read-grant-read-granted-requires t c κs = (omega arith, search needs)
 
--- src/grants.rt:45:1
 read-grant-returns-2 : (t : ℕ) → read-grant-lts.Need-returns-2 (
   read-head-reads.Asked,
   read-head-reads.Learnt,
@@ -597,7 +559,6 @@ read-grant-returns-2 : (t : ℕ) → read-grant-lts.Need-returns-2 (
 unfolding numGrant numWith
 read-grant-returns-2 t c = (rw (grant-step _ _ _ _ (c .before .before .before .before .if1 .left), head-no _ _ (sym ((c .before .before .before .read-head) .ensures) ∙ c .before .k .given .1)), search needs)
 
--- src/grants.rt:45:1
 read-grant-returns-3 : (t : ℕ) → read-grant-lts.Need-returns-3 (
   read-head-reads.Asked,
   read-head-reads.Learnt,
@@ -611,7 +572,6 @@ read-grant-returns-3 : (t : ℕ) → read-grant-lts.Need-returns-3 (
 unfolding numGrant numWith
 read-grant-returns-3 t c = (rw (grant-step _ _ _ _ (c .before .before .before .before .before .before .before .if1 .left), head-got _ _ _ _ (sym ((c .before .before .before .before .before .before .read-head) .ensures) ∙ c .before .before .before .before .v .given .1), ← (c .before .before .blank) .ensures, ← (c .before .read-conds) .ensures .0) ((c .read-granted) .ensures .0), search needs)
 
--- src/grants.rt:81:27
 read-granted-enum-known-o : (t : ℕ) → read-granted-lts.Need-enum-known-o (
   read-concl-below t,
   read-concl.Post,
@@ -620,7 +580,6 @@ read-granted-enum-known-o : (t : ℕ) → read-granted-lts.Need-enum-known-o (
 ) (read-granted-at t) read-granted.Post
 read-granted-enum-known-o t c = search needs
 
--- src/grants.rt:85:22
 read-granted-enum-known-o-2 : (t : ℕ) → read-granted-lts.Need-enum-known-o-2 (
   read-concl-below t,
   read-concl.Post,
@@ -629,7 +588,6 @@ read-granted-enum-known-o-2 : (t : ℕ) → read-granted-lts.Need-enum-known-o-2
 ) (read-granted-at t) read-granted.Post
 read-granted-enum-known-o-2 t c = search needs
 
--- src/grants.rt:86:17
 read-granted-read-concl-requires : (t : ℕ) → read-granted-lts.Need-read-concl-requires (
   read-concl-below t,
   read-concl.Post,
@@ -638,7 +596,6 @@ read-granted-read-concl-requires : (t : ℕ) → read-granted-lts.Need-read-conc
 ) (read-granted-at t) read-granted.Post
 read-granted-read-concl-requires t c κs = (omega arith, search needs)
 
--- src/grants.rt:90:35
 read-granted-enum-known-p : (t : ℕ) → read-granted-lts.Need-enum-known-p (
   read-concl-below t,
   read-concl.Post,
@@ -647,7 +604,6 @@ read-granted-enum-known-p : (t : ℕ) → read-granted-lts.Need-enum-known-p (
 ) (read-granted-at t) read-granted.Post
 read-granted-enum-known-p t c = search needs
 
--- src/grants.rt:94:31
 read-granted-enum-known-p-2 : (t : ℕ) → read-granted-lts.Need-enum-known-p-2 (
   read-concl-below t,
   read-concl.Post,
@@ -656,7 +612,6 @@ read-granted-enum-known-p-2 : (t : ℕ) → read-granted-lts.Need-enum-known-p-2
 ) (read-granted-at t) read-granted.Post
 read-granted-enum-known-p-2 t c = search needs
 
--- src/grants.rt:102:25
 read-granted-enter-requires : (t : ℕ) → read-granted-lts.Need-enter-requires (
   read-concl-below t,
   read-concl.Post,
@@ -665,7 +620,6 @@ read-granted-enter-requires : (t : ℕ) → read-granted-lts.Need-enter-requires
 ) (read-granted-at t) read-granted.Post
 read-granted-enter-requires t c κs = search needs
 
--- src/grants.rt:72:1
 read-granted-returns : (t : ℕ) → read-granted-lts.Need-returns (
   read-concl-below t,
   read-concl.Post,
@@ -675,7 +629,6 @@ read-granted-returns : (t : ℕ) → read-granted-lts.Need-returns (
 unfolding numGranted
 read-granted-returns t c = (rw (c .before .o .given .1), search needs)
 
--- src/grants.rt:72:1
 read-granted-returns-2 : (t : ℕ) → read-granted-lts.Need-returns-2 (
   read-concl-below t,
   read-concl.Post,
@@ -685,7 +638,6 @@ read-granted-returns-2 : (t : ℕ) → read-granted-lts.Need-returns-2 (
 unfolding numGranted
 read-granted-returns-2 t c = (rw (c .before .before .before .before .before .before .o2 .given .1, ← (c .before .before .before .before .read-concl) .ensures .0, c .before .p .given .1), search needs)
 
--- src/grants.rt:72:1
 read-granted-returns-3 : (t : ℕ) → read-granted-lts.Need-returns-3 (
   read-concl-below t,
   read-concl.Post,
@@ -695,7 +647,6 @@ read-granted-returns-3 : (t : ℕ) → read-granted-lts.Need-returns-3 (
 unfolding numGranted
 read-granted-returns-3 t c = (rw (c .before .before .before .before .before .before .before .before .before .o2 .given .1, ← (c .before .before .before .before .before .before .before .read-concl) .ensures .0, c .before .before .before .before .p2 .given .1, ← (c .before .before .enter) .ensures .0), search needs)
 
--- src/grants.rt:237:11
 read-issue-read-form-requires : (t : ℕ) → read-issue-lts.Need-read-form-requires (
   read-form-reads.Asked,
   read-form-reads.Learnt,
@@ -704,7 +655,6 @@ read-issue-read-form-requires : (t : ℕ) → read-issue-lts.Need-read-form-requ
 ) (read-issue-at t) read-issue.Post
 read-issue-read-form-requires t c κs = search needs
 
--- src/grants.rt:238:17
 read-issue-enum-known-k : (t : ℕ) → read-issue-lts.Need-enum-known-k (
   read-form-reads.Asked,
   read-form-reads.Learnt,
@@ -713,7 +663,6 @@ read-issue-enum-known-k : (t : ℕ) → read-issue-lts.Need-enum-known-k (
 ) (read-issue-at t) read-issue.Post
 read-issue-enum-known-k t c = search needs
 
--- src/grants.rt:242:19
 read-issue-enum-known-form : (t : ℕ) → read-issue-lts.Need-enum-known-form (
   read-form-reads.Asked,
   read-form-reads.Learnt,
@@ -722,7 +671,6 @@ read-issue-enum-known-form : (t : ℕ) → read-issue-lts.Need-enum-known-form (
 ) (read-issue-at t) read-issue.Post
 read-issue-enum-known-form t c = search needs
 
--- src/grants.rt:245:17
 read-issue-returns : (t : ℕ) → read-issue-lts.Need-returns (
   read-form-reads.Asked,
   read-form-reads.Learnt,
@@ -732,7 +680,6 @@ read-issue-returns : (t : ℕ) → read-issue-lts.Need-returns (
 unfolding numIssue
 read-issue-returns t c = (rw (byte-got _ _ _ (sym ((c .before .before .before .before .read-form) .ensures) ∙ c .before .before .form .given .1), eq-eqb _ _ (c .if1 .taken)), search needs)
 
--- src/grants.rt:250:17
 read-issue-read-grant-requires : (t : ℕ) → read-issue-lts.Need-read-grant-requires (
   read-form-reads.Asked,
   read-form-reads.Learnt,
@@ -741,7 +688,6 @@ read-issue-read-grant-requires : (t : ℕ) → read-issue-lts.Need-read-grant-re
 ) (read-issue-at t) read-issue.Post
 read-issue-read-grant-requires t c κs = (omega arith, search needs)
 
--- src/grants.rt:254:35
 read-issue-enum-known-o : (t : ℕ) → read-issue-lts.Need-enum-known-o (
   read-form-reads.Asked,
   read-form-reads.Learnt,
@@ -750,7 +696,6 @@ read-issue-enum-known-o : (t : ℕ) → read-issue-lts.Need-enum-known-o (
 ) (read-issue-at t) read-issue.Post
 read-issue-enum-known-o t c = search needs
 
--- src/grants.rt:258:31
 read-issue-enum-known-o-2 : (t : ℕ) → read-issue-lts.Need-enum-known-o-2 (
   read-form-reads.Asked,
   read-form-reads.Learnt,
@@ -759,7 +704,6 @@ read-issue-enum-known-o-2 : (t : ℕ) → read-issue-lts.Need-enum-known-o-2 (
 ) (read-issue-at t) read-issue.Post
 read-issue-enum-known-o-2 t c = search needs
 
--- src/grants.rt:232:1
 read-issue-returns-2 : (t : ℕ) → read-issue-lts.Need-returns-2 (
   read-form-reads.Asked,
   read-form-reads.Learnt,
@@ -769,7 +713,6 @@ read-issue-returns-2 : (t : ℕ) → read-issue-lts.Need-returns-2 (
 unfolding numIssue
 read-issue-returns-2 t c = (rw (byte-no _ _ (sym ((c .before .before .before .read-form) .ensures) ∙ c .before .k .given .1)), search needs)
 
--- src/grants.rt:232:1
 read-issue-returns-3 : (t : ℕ) → read-issue-lts.Need-returns-3 (
   read-form-reads.Asked,
   read-form-reads.Learnt,
@@ -779,7 +722,6 @@ read-issue-returns-3 : (t : ℕ) → read-issue-lts.Need-returns-3 (
 unfolding numIssue
 read-issue-returns-3 t c = (rw (byte-got _ _ _ (sym ((c .before .before .before .before .before .before .before .before .before .read-form) .ensures) ∙ c .before .before .before .before .before .before .before .form .given .1), ne-eqb _ _ (c .before .before .before .before .before .if1 .left), ← (c .before .before .before .before .read-grant) .ensures .0, c .before .o .given .1), search needs)
 
--- src/grants.rt:232:1
 read-issue-returns-4 : (t : ℕ) → read-issue-lts.Need-returns-4 (
   read-form-reads.Asked,
   read-form-reads.Learnt,

@@ -5,33 +5,24 @@ use Rattle.reader.proofs.Answers.{byte-got, byte-no}
 use borrow.Author.Needs.{needs}
 use Rattle.reader.proofs.grants.read_packed.Statement.{statement}
 use Rattle.reader.proofs.grants.read_packed.Tie as tie
-use Rattle.reader.proofs.grants.read_packed.Reads as reads
-use Rattle.reader.proofs.grants.read_packed.Lts as lts
-use Rattle.reader.proofs.bytes.read_pack.Reads as read-pack-reads
 
--- src/grants.rt:219:11
 read-pack-requires : tie.Need-read-pack-requires
 read-pack-requires c κs = search needs
 
--- src/grants.rt:220:17
 enum-known-k : tie.Need-enum-known-k
 enum-known-k c = search needs
 
--- src/grants.rt:221:19
 enum-known-n : tie.Need-enum-known-n
 enum-known-n c = search needs
 
--- src/grants.rt:216:1
 returns : tie.Need-returns
 unfolding numPacked
 returns c = rw (byte-no _ _ (sym ((c .before .before .before .read-pack) .ensures) ∙ c .before .k .given .1))
 
--- src/grants.rt:216:1
 returns-2 : tie.Need-returns-2
 unfolding numPacked
 returns-2 c = rw (byte-got _ _ _ (sym ((c .before .before .before .before .read-pack) .ensures) ∙ c .before .before .n .given .1), eq-eqb _ _ (c .if1 .taken))
 
--- src/grants.rt:216:1
 returns-3 : tie.Need-returns-3
 unfolding numPacked
 returns-3 c = rw (byte-got _ _ _ (sym ((c .before .before .before .before .read-pack) .ensures) ∙ c .before .before .n .given .1), ne-eqb _ _ (c .if1 .left))

@@ -4,46 +4,33 @@ use Rattle.reader.proofs.Answers.{byte-got, byte-no}
 use borrow.Author.Needs.{needs}
 use Rattle.reader.proofs.grants.read_property.Statement.{statement}
 use Rattle.reader.proofs.grants.read_property.Tie as tie
-use Rattle.reader.proofs.grants.read_property.Reads as reads
-use Rattle.reader.proofs.grants.read_property.Lts as lts
-use Rattle.reader.proofs.bytes.read_prin.Reads as read-prin-reads
-use Rattle.reader.proofs.bytes.read_upto.Reads as read-upto-reads
 
--- src/grants.rt:206:11
 read-upto-requires : tie.Need-read-upto-requires
 read-upto-requires c κs = search needs
 
--- src/grants.rt:207:17
 enum-known-k : tie.Need-enum-known-k
 enum-known-k c = search needs
 
--- src/grants.rt:208:19
 enum-known-prop : tie.Need-enum-known-prop
 enum-known-prop c = search needs
 
--- src/grants.rt:208:38
 read-prin-requires : tie.Need-read-prin-requires
 read-prin-requires c κs = search needs
 
--- src/grants.rt:209:21
 enum-known-k-2 : tie.Need-enum-known-k-2
 enum-known-k-2 c = search needs
 
--- src/grants.rt:210:23
 enum-known-p : tie.Need-enum-known-p
 enum-known-p c = search needs
 
--- src/grants.rt:203:1
 returns : tie.Need-returns
 unfolding numProperty
 returns c = rw (byte-no _ _ (sym ((c .before .before .before .read-upto) .ensures) ∙ c .before .k .given .1))
 
--- src/grants.rt:203:1
 returns-2 : tie.Need-returns-2
 unfolding numProperty
 returns-2 c = rw (byte-got _ _ _ (sym ((c .before .before .before .before .before .before .before .read-upto) .ensures) ∙ c .before .before .before .before .before .prop .given .1), byte-no _ _ (sym ((c .before .before .before .read-prin) .ensures) ∙ c .before .k2 .given .1))
 
--- src/grants.rt:203:1
 returns-3 : tie.Need-returns-3
 unfolding numProperty
 returns-3 c = rw (byte-got _ _ _ (sym ((c .before .before .before .before .before .before .before .read-upto) .ensures) ∙ c .before .before .before .before .before .prop .given .1), byte-got _ _ _ (sym ((c .before .before .before .read-prin) .ensures) ∙ c .before .p .given .1))

@@ -2,83 +2,60 @@ use Rattle.reader.specs.inner.OneRecord.{numContent}
 use borrow.Author.Needs.{needs}
 use Rattle.reader.proofs.records.read_content.Statement.{statement}
 use Rattle.reader.proofs.records.read_content.Tie as tie
-use Rattle.reader.proofs.records.read_content.Reads as reads
-use Rattle.reader.proofs.records.read_content.Lts as lts
-use Rattle.reader.proofs.records.read_entry.Reads as read-entry-reads
-use Rattle.reader.proofs.records.read_licence.Reads as read-licence-reads
-use Rattle.reader.proofs.records.read_query.Reads as read-query-reads
-use Rattle.reader.proofs.records.read_removal.Reads as read-removal-reads
 
--- src/records.rt:251:38
 enum-told : tie.Need-enum-told
 enum-told c = search needs
 
--- src/records.rt:251:21
 read-entry-requires : tie.Need-read-entry-requires
 read-entry-requires c κs = search needs
 
--- src/records.rt:252:40
 enum-told-2 : tie.Need-enum-told-2
 enum-told-2 c = search needs
 
--- src/records.rt:252:21
 read-removal-requires : tie.Need-read-removal-requires
 read-removal-requires c κs = search needs
 
--- src/records.rt:253:21
 enum-told-3 : tie.Need-enum-told-3
 enum-told-3 c = search needs
 
--- src/records.rt:253:21
 read-licence-requires : tie.Need-read-licence-requires
 read-licence-requires c κs = search needs
 
--- src/records.rt:254:21
 enum-told-4 : tie.Need-enum-told-4
 enum-told-4 c = search needs
 
--- src/records.rt:254:21
 read-licence-requires-2 : tie.Need-read-licence-requires-2
 read-licence-requires-2 c κs = search needs
 
--- src/records.rt:255:21
 enum-told-5 : tie.Need-enum-told-5
 enum-told-5 c = search needs
 
--- src/records.rt:255:21
 read-query-requires : tie.Need-read-query-requires
 read-query-requires c κs = search needs
 
--- src/records.rt:258:20
 enum-told-6 : tie.Need-enum-told-6
 enum-told-6 c = search needs
 
--- src/records.rt:246:1
 returns : tie.Need-returns
 unfolding numContent
 returns c = rw (c .before .enum-told .given .1) (c .read-entry .ensures)
 
--- src/records.rt:246:1
 returns-2 : tie.Need-returns-2
 unfolding numContent
 returns-2 c = rw (c .before .enum-told2 .given .1) (c .read-removal .ensures)
 
--- src/records.rt:246:1
 returns-3 : tie.Need-returns-3
 unfolding numContent
 returns-3 c = rw (c .before .enum-told3 .given .1) (c .read-licence .ensures)
 
--- src/records.rt:246:1
 returns-4 : tie.Need-returns-4
 unfolding numContent
 returns-4 c = rw (c .before .enum-told4 .given .1) (c .read-licence2 .ensures)
 
--- src/records.rt:246:1
 returns-5 : tie.Need-returns-5
 unfolding numContent
 returns-5 c = rw (c .before .enum-told5 .given .1) (c .read-query .ensures)
 
--- src/records.rt:246:1
 returns-6 : tie.Need-returns-6
 unfolding numContent
 returns-6 c = rw (c .enum-told6 .given .1)

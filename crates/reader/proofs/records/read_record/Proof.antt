@@ -4,36 +4,25 @@ use Rattle.reader.proofs.Record.{reads-over, reads-within}
 use borrow.Author.Needs.{needs}
 use Rattle.reader.proofs.records.read_record.Statement.{statement}
 use Rattle.reader.proofs.records.read_record.Tie as tie
-use Rattle.reader.proofs.records.read_record.Reads as reads
-use Rattle.reader.proofs.records.read_record.Lts as lts
-use Rattle.reader.proofs.records.read_content.Reads as read-content-reads
-use Rattle.reader.proofs.records.read_mark.Reads as read-mark-reads
 
--- src/records.rt:268:9
 returns : tie.Need-returns
 returns c = reads-over _ _ ((c .if1) .taken)
 
--- src/records.rt:273:11
 read-mark-requires : tie.Need-read-mark-requires
 read-mark-requires c κs = search needs
 
--- src/records.rt:274:21
 enum-known-k : tie.Need-enum-known-k
 enum-known-k c = search needs
 
--- src/records.rt:278:22
 enum-known-k-2 : tie.Need-enum-known-k-2
 enum-known-k-2 c = search needs
 
--- src/records.rt:278:28
 read-content-requires : tie.Need-read-content-requires
 read-content-requires c κs = search needs
 
--- src/records.rt:264:1
 returns-2 : tie.Need-returns-2
 returns-2 c = reads-within _ _ _ (search needs) (record-no _ _ _ (sym ((c .before .before .before .read-mark) .ensures) ∙ (c .before .k) .given .1))
 
--- src/records.rt:264:1
 returns-3 : tie.Need-returns-3
 returns-3 c = reads-within _ _ _ (search needs) ((c .read-content) .ensures ∙ record-got _ _ _ (sym ((c .before .before .before .before .read-mark) .ensures) ∙ (c .before .before .k2) .given .1))
 

@@ -3,47 +3,34 @@ use Rattle.reader.specs.inner.OneRecord.{numRemoval}
 use borrow.Author.Needs.{needs}
 use Rattle.reader.proofs.records.read_removal.Statement.{statement}
 use Rattle.reader.proofs.records.read_removal.Tie as tie
-use Rattle.reader.proofs.records.read_removal.Reads as reads
-use Rattle.reader.proofs.records.read_removal.Lts as lts
-use Rattle.reader.proofs.grants.read_grant.Reads as read-grant-reads
-use Rattle.reader.proofs.records.start.Reads as start-reads
 
--- src/records.rt:166:42
 start-requires : tie.Need-start-requires
 start-requires c κs = search needs
 
--- src/records.rt:166:9
 read-grant-requires : tie.Need-read-grant-requires
 read-grant-requires c κs = rw ((c .start) .ensures) (search needs)
 
--- src/records.rt:170:27
 enum-known-o : tie.Need-enum-known-o
 enum-known-o c = search needs
 
--- src/records.rt:174:23
 enum-known-o-2 : tie.Need-enum-known-o-2
 enum-known-o-2 c = search needs
 
--- src/records.rt:176:17
 returns : tie.Need-returns
 unfolding numRemoval
 returns c = rw (← (c .before .before .before .before .before .before .start) .ensures, ← (c .before .before .before .before .before .read-grant) .ensures .0, (c .before .before .o2) .given .1, (c .if1) .taken)
 
--- src/records.rt:181:27
 cast-if2 : tie.Need-cast-if2
 cast-if2 c = search needs
 
--- src/records.rt:182:17
 returns-2 : tie.Need-returns-2
 unfolding numRemoval
 returns-2 c = rw (← (c .before .before .before .before .before .before .before .before .before .start) .ensures, ← (c .before .before .before .before .before .before .before .before .read-grant) .ensures .0, (c .before .before .before .before .before .o2) .given .1, (c .before .before .before .if1) .left, le-leb _ _ ((c .if2) .taken))
 
--- src/records.rt:162:1
 returns-3 : tie.Need-returns-3
 unfolding numRemoval
 returns-3 c = rw (← (c .before .before .before .before .before .start) .ensures, ← (c .before .before .before .before .read-grant) .ensures .0, (c .before .o) .given .1)
 
--- src/records.rt:162:1
 returns-4 : tie.Need-returns-4
 unfolding numRemoval
 returns-4 c = rw (← (c .before .before .before .before .before .before .before .before .before .start) .ensures, ← (c .before .before .before .before .before .before .before .before .read-grant) .ensures .0, (c .before .before .before .before .before .o2) .given .1, (c .before .before .before .if1) .left, lt-leb _ _ ((c .if2) .left))
