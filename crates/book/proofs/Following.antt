@@ -26,7 +26,8 @@ use Rattle.reader.specs.declared.records.Request.the-variants.{Enter, Remove, Q
 use Rattle.reader.specs.declared.records.Found.{Found}
 use Rattle.reader.specs.declared.records.Found.the-variants as found
 use Rattle.reader.specs.declared.records.Reading.{Reading}
-use Rattle.reader.proofs.Exact.{AllowedRecord, record-exact}
+use Rattle.reader.specs.Writing.{AllowedRecord}
+use Rattle.reader.proofs.Exact.{record-exact}
 use Rattle.reader.proofs.Fuse.{Ext, ext-refl, ext-length, number-ext, concl-more}
 use Rattle.rules.specs.Standing.{standing}
 use Rattle.rules.proofs.Standing.{standing-length, standing-bits}

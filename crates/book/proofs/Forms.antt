@@ -31,7 +31,8 @@ use Rattle.reader.specs.declared.records.Standing.{Standing}
 use Rattle.reader.specs.declared.records.Standing.the-variants.{Trusted, Issued}
 use Rattle.reader.specs.declared.records.Request.the-variants.{Enter, Remove, Query}
 use Rattle.reader.specs.declared.records.Found.the-variants as found
-use Rattle.reader.proofs.Exact.{AllowedRecord, record-exact}
+use Rattle.reader.specs.Writing.{AllowedRecord}
+use Rattle.reader.proofs.Exact.{record-exact}
 use Rattle.rules.specs.RowForm.{PrinForm, PackForm, ResForm, ConclForm, CondForm, RowForm, RowsForm}
 use Rattle.book.specs.inner.Apply.{FoundFits}
 use Rattle.book.proofs.Sets.{add-has}

@@ -13,6 +13,7 @@ use Rattle.rows.specs.Allowed.{Allowed, AllowedConds, AllowedConcl}
 use Rattle.reader.specs.declared.bytes.Scope.{Scope}
 use Rattle.reader.specs.Bytes.{got}
 use Rattle.reader.specs.Grants.{readConcl, readConds, readGrant}
+use Rattle.reader.specs.Writing.{writtenRecord, AllowedRecord}
 use Rattle.reader.specs.Records.{Record, TG, ST, LI, WD, QU, letters, readEntry, readLicence, nothingDeclared, readQuery, readContent, readRecord}
 use Rattle.reader.proofs.Spelled.{Spelled, spelled-take, spelled-fits, spelled-starts, join, part, between}
 use Rattle.reader.proofs.Gives.{Gives, done, not-got, after, choose}
@@ -75,22 +76,6 @@ module _ (left : ℕ) (x y : List ℕ) where
   conds-read v cs a d =
       let s = x ++ (writtenConds cs ++ y) in
       conds-reads left s (readGrant left s) (grant-reads left s) v cs (length x) (length x + length (writtenConds cs)) a d (between x (writtenConds cs) y)
-
--- The bytes of a record: its two letters, the issuer of a licence, and the grant or conclusion.
-unfoldable pub writtenRecord : Record → List ℕ
-writtenRecord (TG g) = 84 ∷ 71 ∷ written g
-writtenRecord (ST g) = 83 ∷ 84 ∷ written g
-writtenRecord (LI p g) = 76 ∷ 73 ∷ p ∷ written g
-writtenRecord (WD p g) = 87 ∷ 68 ∷ p ∷ written g
-writtenRecord (QU c) = 81 ∷ 85 ∷ writtenConcl c
-
--- The records that can be read: issuers, and allowed grants and conclusions that are not too deep; a query declares nothing.
-unfoldable pub AllowedRecord : Record → Type 0
-AllowedRecord (TG g) = Allowed g × (depth g ≤ 4)
-AllowedRecord (ST g) = Allowed g × (depth g ≤ 4)
-AllowedRecord (LI p g) = (p < 16) × Allowed g × (depth g ≤ 4)
-AllowedRecord (WD p g) = (p < 16) × Allowed g × (depth g ≤ 4)
-AllowedRecord (QU c) = AllowedConcl 0 0 c × (depthConcl c ≤ 4)
 
 -- A record found from the first byte on.
 pub record RecordFound (s : List ℕ) (r : Record) (n : ℕ) : Type 0 where

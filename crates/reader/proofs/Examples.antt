@@ -10,7 +10,8 @@ use Rattle.rows.specs.Allowed.{Allowed}
 use Rattle.reader.specs.Bytes.{Outcome, got, refused, byteAt, upto, principal, pack, form, head}
 use Rattle.reader.specs.Grants.{readProperty, readPacked, readIssue, readConcl, readConds, readWith, readGrant}
 use Rattle.reader.specs.Records.{Record, TG, LI, QU, readEntry, readLicence, readQuery, readContent, readRecord}
-use Rattle.reader.proofs.Exact.{writtenRecord, AllowedRecord, record-read}
+use Rattle.reader.specs.Writing.{writtenRecord, AllowedRecord}
+use Rattle.reader.proofs.Exact.{record-read}
 
 -- the reader with all its parts open, so that it computes
 opened : List ℕ → Outcome Record

@@ -2,4 +2,5 @@ pub mod Bytes
 pub mod Grants
 pub mod Records
 pub mod Requests
+pub mod Writing
 pub mod inner
