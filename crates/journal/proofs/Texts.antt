@@ -1,0 +1,38 @@
+-- Bytes put after a text, one after another.
+use Prim.Native.Nat.{ℕ, _+_, _≤_, _<_}
+use mathlib.Core.Path.{_≡_, refl, sym, ap, _∙_, subst}
+use mathlib.Core.List.{List, [], _∷_, _++_, append-assoc, append-nil}
+use native.Mathlib.Omega.{arith}
+use native.Mathlib.Numerals.{add-one}
+use lib.ListN.{length, take, getD, set, length-append}
+use lib.Seq.{take-suc-set, take-suc}
+use Rattle.journal.specs.declared.text.Text.{Text}
+use Rattle.journal.specs.inner.Texts.{written, Puts, Holds}
+
+-- one byte after a text
+pub push-puts : (t : Text) (b : ℕ) → t .len < length (t .bytes) → Puts t (b ∷ []) (record { bytes = set (t .bytes) (t .len) b; len = t .len + 1 })
+push-puts t b h = record { text = ap (λ (k : ℕ). take k (set (t .bytes) (t .len) b)) (add-one (t .len)) ∙ take-suc-set (t .bytes) (t .len) b h; len = refl }
+
+pub puts-none : (t : Text) → Puts t [] t
+puts-none t = record { text = sym (append-nil (written t)); len = omega arith }
+
+-- one part after another
+pub puts-then : {t : Text} {v : List ℕ} {r : Text} {w : List ℕ} {s : Text} → Puts t v r → Puts r w s → Puts t (v ++ w) s
+puts-then {t} {v} {r} {w} {s} p q =
+    record {
+      text = q .text ∙ ap (λ (x : List ℕ). x ++ w) (p .text) ∙ append-assoc (written t) v w;
+      len = omega (arith, p .len, q .len, length-append v w);
+    }
+
+-- the next byte of s
+pub puts-next : {t : Text} (s : List ℕ) (i : ℕ) {r q : Text} → i < length s → Puts t (take i s) r → Puts r (getD s i 0 ∷ []) q → Puts t (take (i + 1) s) q
+puts-next {t} s i {r} {q} h p w =
+    subst (λ (x : List ℕ). Puts t x q) (sym (take-suc s i 0 h) ∙ ap (λ (k : ℕ). take k s) (sym (add-one i))) (puts-then p w)
+
+-- the bytes w put are others that equal them
+pub puts-as : {t : Text} {v : List ℕ} {r : Text} {w : List ℕ} → Puts t v r → v ≡ w → Puts t w r
+puts-as {t} {v} {r} {w} p e = subst (λ (x : List ℕ). Puts t x r) e p
+
+-- what is put after no byte is the whole text
+pub puts-whole : {t : Text} {w : List ℕ} {r : Text} → Holds t [] → Puts t w r → r .len ≤ 64 → Holds r w
+puts-whole {t} {w} {r} h p l = record { text = p .text ∙ ap (λ (x : List ℕ). x ++ w) (h .text); len = omega (arith, p .len, h .len); fits = l }

@@ -1,0 +1,54 @@
+-- The reading of a whole journal, and its listing.
+use Prim.Native.Nat.{ℕ, _+_, _<_, min}
+use mathlib.Core.Path.{_≡_}
+use mathlib.Core.Bool.{cond}
+use mathlib.Core.List.{List, [], _∷_, _++_}
+use lib.ListN.{length, drop}
+use lib.Dec.{eqb}
+use Rattle.book.specs.declared.Book.{Book}
+use Rattle.book.specs.declared.Answered.{Answered}
+use Rattle.book.specs.Calls.{Called}
+use Rattle.book.specs.Chains.{Call, freshBook, freshMarks}
+use Rattle.journal.specs.declared.Stepped.{Stepped}
+use Rattle.journal.specs.Lines.{lineOf, endOf, refusedLine}
+
+-- "One record may be followed by others; the answer carries the bytes used." "Refusals 1 to 5 end the reading": they use no
+-- byte. What is left to read of a journal s after a record of it.
+unfoldable pub restAfter : ℕ → List ℕ → List ℕ
+restAfter used s = cond (eqb used 0) [] (drop used s)
+
+-- The calls of a journal s, from a book and marks, to those that the last one leaves: each call is handed what is left to read,
+-- and the book and marks that the last one left, until nothing is left.
+pub data Calls : Book → List ℕ → List ℕ → List Call → Book → List ℕ → Type 0 where
+  ended : {b : Book} {m : List ℕ} → Calls b m [] [] b m
+  then : {b b′ : Book} {m m′ : List ℕ} {cs : List Call} (s : List ℕ) (r : Answered) (n : List ℕ) → 0 < length s →
+      Called b m s r n → Calls (r .book) n (restAfter (r .used) s) cs b′ m′ →
+      Calls b m s (record { record′ = s; before = b; marks = m; gave = r; left = n } ∷ cs) b′ m′
+
+-- "Each record gives a line with its number from 1": the lines of calls that are numbered from n on.
+unfoldable pub recordLines : ℕ → List Call → List (List ℕ)
+recordLines n [] = []
+recordLines n (c ∷ cs) = lineOf n (c .record′) (c .gave .answer) ∷ recordLines (n + 1) cs
+
+-- THE LISTING of a journal: "Refusal 8 is the one line `refused 8`", "a journal over 65,536 bytes"; else the lines of its
+-- records, from a fresh book, and the last line.
+pub data Listed (s : List ℕ) : List (List ℕ) → Type 0 where
+  over : 65536 < length s → Listed s (refusedLine 8 ∷ [])
+  read : (cs : List Call) (b : Book) (m : List ℕ) → length s < 65537 → Calls freshBook freshMarks s cs b m →
+      Listed s (recordLines 1 cs ++ (endOf (length cs) m ∷ []))
+
+-- Where the next record starts, of a journal of len bytes.
+unfoldable pub nextPlace : ℕ → ℕ → ℕ → ℕ
+nextPlace len at used = cond (eqb used 0) len (min len (at + used))
+
+-- THE PROMISE of a step at a place of the journal s: it is the call on what is left to read.
+pub record Steps (b : Book) (m s : List ℕ) (at : ℕ) (r : Stepped) (n : List ℕ) : Type 0 where
+  pub call : Called b m (drop at s) (r .answered) n
+  pub next : r .next ≡ nextPlace (length s) at (r .answered .used)
+
+-- THE PROMISE of reading a journal s to its end, from a fresh book and marks m: n record lines, and the marks m′.
+pub record Ran (s m m′ : List ℕ) (n : ℕ) : Type 0 where
+  pub calls : List Call
+  pub book : Book
+  pub made : Calls freshBook m s calls book m′
+  pub count : length calls ≡ n

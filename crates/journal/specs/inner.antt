@@ -1,0 +1,2 @@
+-- Definitions that only carry the contracts of inner functions.
+pub mod Texts
