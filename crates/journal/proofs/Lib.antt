@@ -5,3 +5,4 @@ pub mod Letters
 pub mod Marks
 pub mod Saying
 pub mod Reading
+pub mod Ending

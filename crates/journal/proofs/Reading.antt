@@ -13,7 +13,8 @@ use Rattle.book.specs.Calls.{Called}
 use Rattle.book.specs.Chains as chains
 use Rattle.book.specs.Chains.{Call, Chain}
 use Rattle.journal.specs.declared.Stepped.{Stepped}
-use Rattle.journal.specs.Journals.{restAfter, Calls, ended, then, nextPlace, Steps}
+use Rattle.journal.specs.Journals.{restAfter, Calls, ended, then, nextPlace, Steps, Ran, Listed, read, recordLines}
+use Rattle.journal.specs.Lines.{endOf}
 
 -- the part of a journal from a place to its end
 pub call-rest : {b : Book} {m : List ℕ} (s : List ℕ) (at : ℕ) {r : Answered} {n : List ℕ} → Called b m (take (length s - at) (drop at s)) r n → Called b m (drop at s) r n
@@ -103,3 +104,9 @@ read-all {b₀} {m₀} s {b} {m} at n l R =
 pub calls-chain : {b b′ : Book} {m m′ s : List ℕ} {cs : List Call} → Calls b m s cs b′ m′ → Chain b m cs b′ m′
 calls-chain ended = chains.none
 calls-chain (then s r n l h x) = chains.then s r n h (calls-chain x)
+
+-- so the lines of a journal that was read to its end, with the last line, are its listing
+pub ran-listed : (s m : List ℕ) (n : ℕ) → length s ≤ 65536 → (R : Ran s m n) → Listed s (recordLines 1 (R .calls) ++ (endOf n m ∷ []))
+ran-listed s m n l R =
+    subst (λ (k : ℕ). Listed s (recordLines 1 (R .calls) ++ (endOf k m ∷ []))) (R .count)
+    (read (R .calls) (R .book) m (omega arith) (R .made))

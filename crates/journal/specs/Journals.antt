@@ -1,11 +1,14 @@
 -- The reading of a whole journal, and its listing.
-use Prim.Native.Nat.{ℕ, _+_, _<_, min}
+use Prim.Native.Nat.{ℕ, _+_, _≤_, _<_, min}
 use mathlib.Core.Path.{_≡_}
 use mathlib.Core.Bool.{cond}
+use mathlib.Core.Logic.{_↔_}
 use mathlib.Core.List.{List, [], _∷_, _++_}
 use lib.ListN.{length, drop}
 use lib.Dec.{eqb}
 use Rattle.book.specs.declared.Book.{Book}
+use Rattle.book.specs.declared.Answer.{Answer}
+use Rattle.book.specs.declared.Answer.the-variants.{Permitted, NotPermitted, Changed, Refused}
 use Rattle.book.specs.declared.Answered.{Answered}
 use Rattle.book.specs.Calls.{Called}
 use Rattle.book.specs.Chains.{Call, freshBook, freshMarks}
@@ -24,6 +27,18 @@ pub data Calls : Book → List ℕ → List ℕ → List Call → Book → List 
   then : {b b′ : Book} {m m′ : List ℕ} {cs : List Call} (s : List ℕ) (r : Answered) (n : List ℕ) → 0 < length s →
       Called b m s r n → Calls (r .book) n (restAfter (r .used) s) cs b′ m′ →
       Calls b m s (record { record′ = s; before = b; marks = m; gave = r; left = n } ∷ cs) b′ m′
+
+-- "Refusals 1 to 5 end the reading."
+abbrev pub Ends : Answer → Type 0
+Ends Permitted = ⊥
+Ends NotPermitted = ⊥
+Ends (Changed c) = ⊥
+Ends (Refused k) = (1 ≤ k) × (k ≤ 5)
+
+-- DEMANDED of the calls of a journal: those that use no byte, and so end it, are those with the refusals 1 to 5.
+unfoldable pub AllEnd : List Call → Type 0
+AllEnd [] = Unit {0}
+AllEnd (c ∷ cs) = ((c .gave .used ≡ 0) ↔ Ends (c .gave .answer)) × AllEnd cs
 
 -- "Each record gives a line with its number from 1": the lines of calls that are numbered from n on.
 unfoldable pub recordLines : ℕ → List Call → List (List ℕ)
@@ -46,9 +61,10 @@ pub record Steps (b : Book) (m s : List ℕ) (at : ℕ) (r : Stepped) (n : List 
   pub call : Called b m (drop at s) (r .answered) n
   pub next : r .next ≡ nextPlace (length s) at (r .answered .used)
 
--- THE PROMISE of reading a journal s to its end, from a fresh book and marks m: n record lines, and the marks m′.
-pub record Ran (s m m′ : List ℕ) (n : ℕ) : Type 0 where
+-- THE PROMISE of reading a journal s to its end, from a fresh book and fresh marks: n record lines, and the marks m that the
+-- last call left.
+pub record Ran (s m : List ℕ) (n : ℕ) : Type 0 where
   pub calls : List Call
   pub book : Book
-  pub made : Calls freshBook m s calls book m′
+  pub made : Calls freshBook freshMarks s calls book m
   pub count : length calls ≡ n

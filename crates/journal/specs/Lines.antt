@@ -9,12 +9,12 @@ use Rattle.book.specs.declared.Answer.{Answer}
 use Rattle.book.specs.declared.Answer.the-variants.{Permitted, NotPermitted, Changed, Refused}
 use Rattle.book.specs.Counts.{ones}
 
--- The last digits of n, at most k of them, from the first that is not a leading zero; `0` to `9` are 48 to 57.
+-- The digits of n without leading zeros, the last k where there are more; `0` to `9` are 48 to 57.
 unfoldable pub digits : ℕ → ℕ → List ℕ
 digits zero n = []
 digits (suc k) n = cond (ltb n 10) ((48 + n) ∷ []) (digits k (n / 10) ++ ((48 + n % 10) ∷ []))
 
--- A number in decimal: it has fewer digits than n + 1, or as many where n is 0.
+-- A number in decimal: n + 1 digits are enough for n.
 unfoldable pub decimal : ℕ → List ℕ
 decimal n = digits (suc n) n
 

@@ -18,7 +18,7 @@ pub struct Stepped {
     pub next: usize,
 }
 
-// Where the next record of len bytes starts: at the end, where the record used none.
+// Where the next record starts in a journal of len bytes: at the end, where the one at its place used no byte.
 fn next_place(len: usize, at: usize, used: usize) -> usize
     requires { ⌜ at ≤ len ⌝ }
     ensures { λ r. ⌜ r ≡ nextPlace len at used ⌝ }

@@ -6,8 +6,8 @@ use reader::records;
 use reader::records::Kind;
 use reader::records::MarkOut;
 ghost use mathlib.Core.Path.{_≡_};
-ghost use Prim.Native.Nat.{_+_, _≤_};
-ghost use lib.ListN.{length, take};
+ghost use Prim.Native.Nat.{_≤_};
+ghost use lib.ListN.{take};
 ghost use Rattle.journal.specs.Lines.{lettersOf, said, lineOf, endOf, refusedLine};
 ghost use Rattle.journal.specs.inner.Texts.{Puts, Holds, oneOf};
 ghost use Rattle.book.specs.Counts.{ones};
@@ -22,7 +22,7 @@ fn first_two(s: &[u8]) -> &[u8]
     &s[..2]
 }
 
-// The letters of a record that starts with s, after the bytes of t.
+// The letters of the record that s starts with.
 fn put_letters(t: Text, s: &[u8]) -> Text
     requires { ⌜ t .len ≤ 62 ⌝ }
     ensures { λ r. ⌜ Puts t (lettersOf (now (s .entry))) r ⌝ }

@@ -5,7 +5,9 @@ use journal::text::Text;
 use libc::STDIN_FILENO;
 use libc::STDOUT_FILENO;
 use sorts::Number;
+ghost use mathlib.Core.Path.{_≡_};
 ghost use Prim.Native.Nat.{_≤_};
+ghost use Rattle.book.specs.Chains.{freshMarks};
 ghost use Rattle.journal.specs.Journals.{Ran};
 
 // How many record lines were made, and whether the output still takes lines.
@@ -28,7 +30,8 @@ fn write(open: bool, line: Text) -> bool
 
 // Reads a journal record by record, from a fresh book, and writes a line for each.
 fn read_journal(s: &[u8], marks: &mut [u8]) -> Run
-    ensures { λ r. ⌜ Ran (now (s .entry)) (now (marks .entry)) (now (marks .exit)) (r .lines) ⌝ }
+    requires { ⌜ now marks ≡ freshMarks ⌝ }
+    ensures { λ r. ⌜ Ran (now (s .entry)) (now (marks .exit)) (r .lines) ⌝ }
 {
     let mut b = Book::new();
     let mut at: usize = 0;

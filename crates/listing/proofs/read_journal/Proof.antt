@@ -1,3 +1,6 @@
+use mathlib.Core.List.{List}
+use Prim.Native.Nat.{ℕ}
+use Rattle.book.specs.Chains.{freshMarks}
 use Prim.Native.Nat.{_-_}
 use mathlib.Core.Path.{_≡_, subst}
 use native.Mathlib.Omega.{arith}
@@ -75,7 +78,10 @@ returns c =
     record {
       calls = (c .before .loop) .inv .0 .calls;
       book = (c .before .loop) .b;
-      made = subst (λ (x : Book). Calls x ((c .before .before .before .before .before .args) .marks .now) ((c .before .before .before .before .before .args) .s .now) ((c .before .loop) .inv .0 .calls) ((c .before .loop) .b) ((c .before .loop) .marks)) ((c .before .before .new) .ensures) (read-all ((c .before .before .before .before .before .args) .s .now) ((c .before .loop) .at) ((c .before .loop) .lines) ((c .loop-test) .left) ((c .before .loop) .inv .0));
+      made =
+          subst (λ (x : Book). Calls x freshMarks ((c .before .before .before .before .before .args) .s .now) ((c .before .loop) .inv .0 .calls) ((c .before .loop) .b) ((c .before .loop) .marks)) ((c .before .before .new) .ensures)
+          (subst (λ (m : List ℕ). Calls ((c .before .before .new) .result) m ((c .before .before .before .before .before .args) .s .now) ((c .before .loop) .inv .0 .calls) ((c .before .loop) .b) ((c .before .loop) .marks)) ((c .before .before .before .before .before .pre))
+          (read-all ((c .before .before .before .before .before .args) .s .now) ((c .before .loop) .at) ((c .before .loop) .lines) ((c .loop-test) .left) ((c .before .loop) .inv .0)));
       count = (c .before .loop) .inv .0 .count;
     }
 

@@ -5,6 +5,7 @@ use Rattle.journal.proofs.Texts.{puts-as, puts-then, puts-whole}
 use Rattle.journal.proofs.Digits.{decimal-few}
 use Rattle.journal.specs.Lines.{endOf}
 use Rattle.journal.specs.Lines.{decimal}
+use borrow.Author.Needs.{needs}
 use Rattle.journal.proofs.lines.end_line.Statement.{statement}
 use Rattle.journal.proofs.lines.end_line.Tie as tie
 use Rattle.journal.proofs.lines.end_line.Reads as reads

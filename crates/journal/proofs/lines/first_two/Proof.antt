@@ -2,6 +2,7 @@ use mathlib.Core.Path.{sym}
 use borrow.Author.Needs.{needs}
 use Rattle.journal.proofs.Letters.{two-all}
 use lib.Seq.{length-take-le}
+use borrow.Author.Needs.{needs}
 use Rattle.journal.proofs.lines.first_two.Statement.{statement}
 use Rattle.journal.proofs.lines.first_two.Tie as tie
 use Rattle.journal.proofs.lines.first_two.Reads as reads

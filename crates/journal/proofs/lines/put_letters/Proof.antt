@@ -6,6 +6,7 @@ use lib.ListN.{length}
 use Rattle.journal.proofs.Texts.{puts-as}
 use Rattle.journal.proofs.Letters.{told-letters, two-long}
 use Rattle.reader.specs.declared.records.Kind.the-variants.{Tg, St, Li, Wd, Qu}
+use borrow.Author.Needs.{needs}
 use Rattle.journal.proofs.lines.put_letters.Statement.{statement}
 use Rattle.journal.proofs.lines.put_letters.Tie as tie
 use Rattle.journal.proofs.lines.put_letters.Reads as reads

@@ -6,6 +6,7 @@ use Rattle.journal.proofs.Texts.{puts-as, puts-then}
 use Rattle.journal.proofs.Letters.{two-long}
 use Rattle.journal.proofs.Digits.{decimal-few}
 use Rattle.journal.specs.Lines.{said}
+use borrow.Author.Needs.{needs}
 use Rattle.journal.proofs.lines.put_said.Statement.{statement}
 use Rattle.journal.proofs.lines.put_said.Tie as tie
 use Rattle.journal.proofs.lines.put_said.Reads as reads
