@@ -1,0 +1,214 @@
+// Books as lists of records, and the rows and flags they come to.
+// Written from the product's scope document (statement numbers, grants, records).
+
+pub const PRINS: usize = 16;
+pub const GRANTS: usize = 64;
+pub const PACKS: usize = 32;
+pub const CONCLUSIONS: usize = 144 * PRINS;
+pub const MARKS: usize = CONCLUSIONS * (PRINS + 1);
+pub const JOURNAL_LIMIT: usize = 65_536;
+
+/// A principal as written: 0 to 15, or a variable.
+pub type Pr = u8;
+pub const X: Pr = 0x80;
+pub const Y: Pr = 0x81;
+
+#[derive(Clone, PartialEq)]
+pub enum Con {
+    Prop(u8, Pr),
+    Issue(Pr, Box<Grant>),
+    IssueVar(Pr),
+    /// kind (2 run, 3 export), principal, pack (0x80 the variable)
+    Pack(u8, Pr, u8),
+}
+
+#[derive(Clone, PartialEq)]
+pub struct Grant {
+    pub prins: u8,
+    pub res: u8, // 0 none, 1 over grants, 2 over packs
+    pub conds: Vec<(Pr, Con)>,
+    pub head: Con,
+}
+
+pub fn grant(prins: u8, res: u8, conds: Vec<(Pr, Con)>, head: Con) -> Grant {
+    Grant {
+        prins,
+        res,
+        conds,
+        head,
+    }
+}
+
+pub fn fact(head: Con) -> Grant {
+    grant(0, 0, vec![], head)
+}
+
+fn write_con(c: &Con, out: &mut Vec<u8>) {
+    match c {
+        Con::Prop(k, p) => out.extend([0, *k, *p]),
+        Con::Issue(p, g) => {
+            out.extend([1, *p, 0]);
+            write_grant(g, out);
+        }
+        Con::IssueVar(p) => out.extend([1, *p, 1]),
+        Con::Pack(kind, p, n) => out.extend([*kind, *p, *n]),
+    }
+}
+
+pub fn write_grant(g: &Grant, out: &mut Vec<u8>) {
+    out.extend([g.prins, g.res, g.conds.len() as u8]);
+    for (q, c) in &g.conds {
+        out.push(*q);
+        write_con(c, out);
+    }
+    write_con(&g.head, out);
+}
+
+/// A conclusion in a row: principal, and a slot that is fixed or a base to
+/// which the value of the resource variable is added.
+#[derive(Clone, Copy)]
+pub struct Atom {
+    pub prin: Pr,
+    pub slot: u16,
+    pub var: bool,
+}
+
+#[derive(Clone)]
+pub struct Row {
+    pub res: u8,
+    pub conds: Vec<(Pr, Atom)>,
+    pub head: Atom,
+    pub trusted: bool,
+    pub issued: [bool; PRINS],
+}
+
+#[derive(Clone)]
+pub struct Book {
+    pub name: String,
+    pub rows: Vec<Row>,
+    names: Vec<Vec<u8>>,
+    pub journal: Vec<u8>,
+    pub records: usize,
+    /// the shortest record that enters a trusted grant that stands
+    pub again: Vec<u8>,
+}
+
+impl Book {
+    pub fn new(name: &str) -> Book {
+        Book {
+            name: name.to_string(),
+            rows: vec![],
+            names: vec![],
+            journal: vec![],
+            records: 0,
+            again: vec![],
+        }
+    }
+
+    fn atom(&mut self, c: &Con) -> Atom {
+        match c {
+            Con::Prop(k, p) => Atom {
+                prin: *p,
+                slot: *k as u16,
+                var: false,
+            },
+            Con::Issue(p, g) => {
+                let n = self.number(g);
+                Atom {
+                    prin: *p,
+                    slot: 16 + n as u16,
+                    var: false,
+                }
+            }
+            Con::IssueVar(p) => Atom {
+                prin: *p,
+                slot: 16,
+                var: true,
+            },
+            Con::Pack(kind, p, n) => {
+                let base = if *kind == 2 { 80 } else { 112 };
+                if *n == 0x80 {
+                    Atom {
+                        prin: *p,
+                        slot: base,
+                        var: true,
+                    }
+                } else {
+                    Atom {
+                        prin: *p,
+                        slot: base + *n as u16,
+                        var: false,
+                    }
+                }
+            }
+        }
+    }
+
+    /// The number of a grant, given now if it has none; inner grants first.
+    fn number(&mut self, g: &Grant) -> usize {
+        let conds: Vec<(Pr, Atom)> = g.conds.iter().map(|(q, c)| (*q, self.atom(c))).collect();
+        let head = self.atom(&g.head);
+        let mut bytes = vec![];
+        write_grant(g, &mut bytes);
+        if let Some(n) = self.names.iter().position(|b| *b == bytes) {
+            return n;
+        }
+        assert!(
+            self.rows.len() < GRANTS,
+            "{}: more than 64 grants",
+            self.name
+        );
+        self.names.push(bytes);
+        self.rows.push(Row {
+            res: g.res,
+            conds,
+            head,
+            trusted: false,
+            issued: [false; PRINS],
+        });
+        self.rows.len() - 1
+    }
+
+    pub fn trust(&mut self, g: &Grant) {
+        let n = self.number(g);
+        self.rows[n].trusted = true;
+        let mut rec = b"TG".to_vec();
+        write_grant(g, &mut rec);
+        self.journal.extend(&rec);
+        self.records += 1;
+        if self.again.is_empty() || rec.len() <= self.again.len() {
+            self.again = rec;
+        }
+    }
+
+    pub fn issue(&mut self, p: u8, g: &Grant) {
+        let n = self.number(g);
+        self.rows[n].issued[p as usize] = true;
+        self.journal.extend(b"LI");
+        self.journal.push(p);
+        write_grant(g, &mut self.journal);
+        self.records += 1;
+    }
+
+    /// A query that numbers the grant and lets nothing stand.
+    pub fn name(&mut self, g: &Grant) {
+        self.number(g);
+        self.journal.extend(b"QU");
+        write_con(&Con::Issue(0, Box::new(g.clone())), &mut self.journal);
+        self.records += 1;
+    }
+
+    /// The journal that builds the book and then enters a standing grant k times.
+    pub fn journal_again(&self, k: usize) -> Vec<u8> {
+        let mut j = self.journal.clone();
+        for _ in 0..k {
+            j.extend(&self.again);
+        }
+        assert!(j.len() <= JOURNAL_LIMIT);
+        j
+    }
+
+    pub fn room(&self) -> usize {
+        (JOURNAL_LIMIT - self.journal.len()) / self.again.len()
+    }
+}

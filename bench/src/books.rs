@@ -1,0 +1,279 @@
+// The books of the table.
+
+use crate::book::Con::*;
+use crate::book::*;
+
+fn short() -> Grant {
+    fact(Prop(15, 15))
+}
+
+/// Ten rows: a delegation, a self-granted right, a rule over all principals
+/// and a right over all packs, with inner grants to depth 3.
+fn small() -> Book {
+    let mut b = Book::new("small");
+    let smart = fact(Prop(0, 2));
+    let rule = grant(0, 0, vec![(0, Prop(0, 2))], Prop(1, 2));
+    b.issue(0, &smart);
+    b.issue(1, &rule);
+    b.trust(&fact(Issue(1, Box::new(rule))));
+    b.issue(0, &grant(1, 0, vec![(0, Prop(3, X))], Prop(2, X)));
+    b.issue(0, &grant(0, 0, vec![(0, Prop(2, 2))], Prop(3, 3)));
+    b.issue(0, &fact(Prop(3, 2)));
+    b.trust(&grant(0, 1, vec![], IssueVar(0)));
+    b.trust(&grant(0, 2, vec![], Pack(2, 5, 0x80)));
+    b.trust(&fact(Issue(
+        3,
+        Box::new(fact(Issue(
+            1,
+            Box::new(grant(0, 0, vec![(0, Prop(0, 2))], Prop(1, 2))),
+        ))),
+    )));
+    b.trust(&short());
+    b
+}
+
+/// 64 rows without a variable: facts and rules that fire one another.
+fn constants() -> Book {
+    let mut b = Book::new("constants");
+    b.trust(&short());
+    for i in 0..63u8 {
+        let (k, p) = (i / 16, i % 16);
+        let g = if i < 16 {
+            fact(Prop(0, p))
+        } else {
+            grant(0, 0, vec![(p, Prop(k - 1, p)), (p, Prop(0, p))], Prop(k, p))
+        };
+        b.issue(p, &g);
+        if i % 3 == 0 {
+            b.trust(&g);
+        }
+    }
+    b
+}
+
+/// What `variables` and `almost` stand on: everyone has said two properties
+/// of everyone, and every right to issue of everyone. Numbered first and
+/// issued last, which keeps the building of the book short.
+fn sayings() -> Vec<Grant> {
+    vec![
+        grant(1, 0, vec![], Prop(0, X)),
+        grant(1, 0, vec![], Prop(1, X)),
+        grant(1, 1, vec![], IssueVar(X)),
+    ]
+}
+
+fn by_all(b: &mut Book, grants: &[Grant]) {
+    for g in grants {
+        for p in 0..16 {
+            b.issue(p, g);
+        }
+    }
+}
+
+/// Rows of two principal variables and a grant variable, with conditions that
+/// hold for every substitution.
+pub fn variables(rows: u8) -> Book {
+    let mut b = Book::new(&format!("variables, {} rows that hold", rows));
+    b.trust(&short());
+    sayings().iter().for_each(|g| b.name(g));
+    for i in 0..rows {
+        let (k, h) = (i % 2, 2 + i / 2 % 13);
+        let conds = match i / 26 {
+            0 => vec![(X, IssueVar(Y)), (Y, Prop(k, X))],
+            1 => vec![(X, IssueVar(Y)), (Y, IssueVar(X)), (X, Prop(k, Y))],
+            _ => vec![(X, Prop(k, Y)), (Y, IssueVar(X))],
+        };
+        let head = if i % 5 == 4 { Prop(h, X) } else { Prop(h, Y) };
+        b.issue(i % 16, &grant(2, 1, conds, head));
+    }
+    by_all(&mut b, &sayings());
+    b
+}
+
+/// Rows of two principal variables, a grant variable and four conditions of
+/// which none holds.
+pub fn never(rows: u8) -> Book {
+    let mut b = Book::new(&format!("four conditions, {} rows, none hold", rows));
+    b.trust(&short());
+    for i in 0..rows {
+        let (k, h) = (i % 8, 8 + i / 8);
+        let conds = vec![
+            (X, Prop(k, Y)),
+            (Y, IssueVar(X)),
+            (X, IssueVar(Y)),
+            (Y, Prop(k, X)),
+        ];
+        b.issue(i % 16, &grant(2, 1, conds, Prop(h % 16, X)));
+    }
+    b
+}
+
+/// The same, where the first three hold for everyone and the last for none.
+fn almost() -> Book {
+    let mut b = Book::new("four conditions, 60 rows, last never holds");
+    b.trust(&short());
+    sayings().iter().for_each(|g| b.name(g));
+    for i in 0..60u8 {
+        let (k, h) = (i % 2, 2 + i / 2 % 6);
+        let conds = vec![
+            (X, Prop(k, Y)),
+            (Y, IssueVar(X)),
+            (X, IssueVar(Y)),
+            (Y, Prop(8 + i / 12, X)),
+        ];
+        b.issue(i % 16, &grant(2, 1, conds, Prop(h, X)));
+    }
+    by_all(&mut b, &sayings());
+    b
+}
+
+/// All 39,168 marks by 19 rows without conditions, each trusted and issued by
+/// all; `more` adds 45 rows with variables and conditions that all hold.
+fn dense(more: bool) -> Book {
+    let mut b = Book::new(if more {
+        "dense, 64 rows"
+    } else {
+        "dense, 19 rows"
+    });
+    let mut all: Vec<Grant> = (0..16).map(|k| grant(1, 0, vec![], Prop(k, X))).collect();
+    all.push(grant(1, 2, vec![], Pack(2, X, 0x80)));
+    all.push(grant(1, 2, vec![], Pack(3, X, 0x80)));
+    all.push(grant(1, 1, vec![], IssueVar(X)));
+    all.iter().for_each(|g| b.name(g));
+    if more {
+        for i in 0..45u8 {
+            let k = i % 16;
+            let conds = if i / 16 == 1 {
+                vec![(Y, Prop(k, X)), (X, IssueVar(Y))]
+            } else {
+                vec![(X, Prop(k, Y)), (Y, IssueVar(X))]
+            };
+            let head = if i < 32 { IssueVar(Y) } else { Prop(k, Y) };
+            b.issue(k, &grant(2, 1, conds, head));
+        }
+    }
+    all.iter().for_each(|g| b.trust(g));
+    by_all(&mut b, &all);
+    b
+}
+
+/// 28 rows by which a token walks from principal 1 to 15 and then through
+/// properties 0 to 14, the last step entered first. `y` adds a second
+/// principal variable and `z` a grant variable to every row.
+fn chain(name: &str, x: bool, y: bool, z: bool, many: bool) -> Book {
+    let mut b = Book::new(name);
+    b.trust(&short());
+    let mut steps = vec![];
+    for i in 0..14u8 {
+        steps.push((1 + i, 0, 2 + i, 0)); // reader, property, writer, property
+    }
+    for k in 0..14u8 {
+        steps.push((15, k, 15, k + 1));
+    }
+    for (s, k, t, h) in steps.into_iter().rev() {
+        let on = if x { X } else { 5 };
+        let mut conds = vec![(s, Prop(k, on))];
+        let mut head = Prop(h, on);
+        if y {
+            conds.push((s, Prop(k, Y)));
+            head = Prop(h, Y);
+        }
+        if z {
+            conds.push((0, IssueVar(on)));
+        }
+        b.issue(t, &grant(x as u8 + y as u8, z as u8, conds, head));
+    }
+    if many {
+        b.issue(1, &grant(1, 0, vec![], Prop(0, X)));
+        b.issue(0, &grant(1, 1, vec![], IssueVar(X)));
+    } else {
+        b.issue(1, &fact(Prop(0, 5)));
+        b.issue(0, &fact(Issue(5, Box::new(short()))));
+    }
+    b
+}
+
+pub fn all() -> Vec<Book> {
+    vec![
+        small(),
+        constants(),
+        variables(60),
+        never(60),
+        almost(),
+        dense(false),
+        dense(true),
+        chain("chain, no variable", false, false, false, false),
+        chain("chain, x", true, false, false, false),
+        chain("chain, x y", true, true, false, false),
+        chain("chain, x and grant", true, false, true, false),
+        chain("chain, x y and grant", true, true, true, false),
+        chain("chain, x y and grant, 16 tokens", true, true, true, true),
+    ]
+}
+
+/// A book drawn from a seed, to compare the evaluators on more than the table.
+pub fn drawn(seed: u64) -> Book {
+    let mut s = seed.wrapping_mul(0x9E37_79B9_7F4A_7C15) | 1;
+    let mut next = move |n: u64| {
+        s ^= s << 13;
+        s ^= s >> 7;
+        s ^= s << 17;
+        (s >> 20) % n
+    };
+    let mut b = Book::new(&format!("drawn {}", seed));
+    b.trust(&short());
+    let mut made: Vec<Grant> = vec![fact(Prop(0, 0))];
+    for _ in 0..40 {
+        if b.rows.len() > 52 {
+            break;
+        }
+        let prins = next(3) as u8;
+        let res = next(3) as u8;
+        fn prin(next: &mut dyn FnMut(u64) -> u64, prins: u8) -> u8 {
+            if prins > 0 && next(2) == 0 {
+                X + next(prins as u64) as u8
+            } else {
+                next(3) as u8
+            }
+        }
+        fn con(next: &mut dyn FnMut(u64) -> u64, prins: u8, res: u8, made: &[Grant]) -> Con {
+            match next(5) {
+                0 | 1 => Prop(next(3) as u8, prin(next, prins)),
+                2 if res == 1 && next(2) == 0 => IssueVar(prin(next, prins)),
+                2 => {
+                    let flat: Vec<&Grant> = made.iter().filter(|g| flat(g)).collect();
+                    let g = flat[next(flat.len() as u64) as usize].clone();
+                    Issue(prin(next, prins), Box::new(g))
+                }
+                k => {
+                    let n = if res == 2 && next(2) == 0 {
+                        0x80
+                    } else {
+                        next(2) as u8
+                    };
+                    Pack(k as u8 - 1, prin(next, prins), n)
+                }
+            }
+        }
+        fn flat(g: &Grant) -> bool {
+            !matches!(g.head, Issue(..)) && g.conds.iter().all(|(_, c)| !matches!(c, Issue(..)))
+        }
+        let n = [0, 0, 1, 1, 2, 3, 4][next(7) as usize];
+        let mut conds = vec![];
+        for _ in 0..n {
+            let q = prin(&mut next, prins);
+            conds.push((q, con(&mut next, prins, res, &made)));
+        }
+        let head = con(&mut next, prins, res, &made);
+        let g = grant(prins, res, conds, head);
+        match next(4) {
+            0 => b.trust(&g),
+            _ => b.issue(next(3) as u8, &g),
+        }
+        if next(3) == 0 {
+            b.issue(next(3) as u8, &g);
+        }
+        made.push(g);
+    }
+    b
+}
