@@ -3,9 +3,13 @@ pub mod Saturation
 pub mod Bounds
 pub mod Ground
 pub mod Standing
-pub mod Worked
-pub mod Fired
-pub mod Boxes
-pub mod Swept
 pub mod Trimmed
 pub mod Filled
+pub mod BitLaws
+pub mod Places
+pub mod Turning
+pub mod Needing
+pub mod Growth
+pub mod Sweeping
+pub mod Coursing
+pub mod Marking

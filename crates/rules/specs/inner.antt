@@ -1,4 +1,7 @@
 -- What only the contracts of inner functions cite.
-pub mod Worked
-pub mod Box
-pub mod Sweep
+pub mod Bits
+pub mod Layout
+pub mod Turn
+pub mod Grant
+pub mod Grown
+pub mod Course
