@@ -8,19 +8,25 @@ ghost use lib.ListN.{length, getD};
 ghost use Rattle.sorts.specs.Decides.{Decides};
 ghost use Rattle.book.specs.Books.{BookForm};
 
+// The larger of two bytes.
+fn larger(a: u8, b: u8) -> u8
+    ensures { λ r. ⌜ (a ≤ r) × (b ≤ r) × ((k : ℕ) → a ≤ k → b ≤ k → r ≤ k) ⌝ }
+{
+    if a <= b { b } else { a }
+}
+
 // Whether every byte is 0 or 1.
 fn bits(s: &[u8]) -> bool
     ensures { λ r. ⌜ Decides r ((i : ℕ) → getD (now (s .entry)) i 0 ≤ 1) ⌝ }
 {
     let n = s.len();
+    let mut m: u8 = 0;
     let mut i: usize = 0;
     while i < n {
-        if 1 < s[i] {
-            return false;
-        }
+        m = larger(m, s[i]);
         i += 1;
     }
-    true
+    m <= 1
 }
 
 // Whether every byte from a place on is 0.

@@ -1,4 +1,5 @@
 pub mod Alike
 pub mod Deciding
 pub mod Depths
+pub mod Keys
 pub mod Parts

@@ -7,17 +7,22 @@ use sorts::Pack;
 use sorts::Prin;
 use sorts::Res;
 use sorts::Row;
+ghost use mathlib.Core.Bool.{true};
 ghost use mathlib.Core.Path.{_≡_};
 ghost use Prim.Native.Nat.{ℕ, _≤_, _<_};
-ghost use lib.ListN.{getD};
+ghost use lib.ListN.{length, getD};
 ghost use Rattle.sorts.specs.declared.Res.the-variants.{Issue};
 ghost use Rattle.sorts.specs.Blank.{blankCond, blankRow, noRow};
 ghost use Rattle.sorts.specs.Decides.{Decides};
 ghost use Rattle.rows.specs.Form.{PrinForm, PackForm, ResForm, ConclForm, CondForm, RowForm, TableForm, larger, depth, rowsOut, noGrant};
 ghost use Rattle.form.specs.inner.Depths.{depthOfRes, depthOfConcl, depthOfConds, heldDepth};
+ghost use Rattle.form.specs.inner.Keys.{resKey, conclKey, condKey, rowKey};
 
 // How many properties there are.
 const PROPERTIES: u8 = 16;
+
+// What the keys of rows are written in.
+const BASE: u64 = 509;
 
 // Whether a principal in a row is one of the principals, or a variable that the row declares.
 fn prin_ok(prins: u8, p: Prin) -> bool
@@ -205,17 +210,89 @@ fn new_row(t: Table, i: usize) -> bool
     true
 }
 
+// A number made of a resource.
+fn res_key(x: Res) -> u64
+    ensures { λ k. ⌜ (k ≡ resKey x) × (k < 1024) ⌝ }
+{
+    match x {
+        Res::Issue(g) => g.0 as u64,
+        Res::Run(p) => 256 + p.0 as u64,
+        Res::Export(p) => 512 + p.0 as u64,
+    }
+}
+
+// A number made of a conclusion.
+fn concl_key(e: Concl) -> u64
+    ensures { λ k. ⌜ (k ≡ conclKey e) × (k < 524288) ⌝ }
+{
+    match e {
+        Concl::Property(k, p) => 1024 * p.0 as u64 + k as u64,
+        Concl::Perm(p, x) => 262144 + (1024 * p.0 as u64 + res_key(x)),
+    }
+}
+
+// A number made of a condition.
+fn cond_key(c: Cond) -> u64
+    ensures { λ k. ⌜ (k ≡ condKey c) × (k < 134217728) ⌝ }
+{
+    let p = c.who;
+    let e = c.what;
+    256 * concl_key(e) + p.0 as u64
+}
+
+// A number made of a row.
+fn row_key(x: Row) -> u64
+    ensures { λ k. ⌜ k ≡ rowKey x ⌝ }
+{
+    let c = x.conds;
+    let e = x.head;
+    let a = BASE * cond_key(c[0]) + cond_key(c[1]);
+    let b = BASE * a + cond_key(c[2]);
+    let d = BASE * b + cond_key(c[3]);
+    BASE * d + concl_key(e)
+}
+
+// Whether k is none of the first n keys.
+fn new_key(keys: &[u64], n: usize, k: u64) -> bool
+    requires { ⌜ n ≤ length (now keys) ⌝ }
+    ensures { λ r. ⌜ (r ≡ true → (j : ℕ) → j < n → getD (now (keys .entry)) j 0 ≡ k → ⊥) ⌝ }
+{
+    let mut j: usize = 0;
+    while j < n {
+        if keys[j] == k {
+            return false;
+        }
+        j += 1;
+    }
+    true
+}
+
+// Whether row i, which has key k, is none of the rows before it, which have the keys before.
+fn differs(t: Table, keys: &[u64], i: usize, k: u64) -> bool
+    requires { ⌜ (i < 64) × (length (now keys) ≡ 64) × ((j : ℕ) → j < i → getD (now keys) j 0 ≡ rowKey (getD (t .rows) j noRow)) × (k ≡ rowKey (getD (t .rows) i noRow)) ⌝ }
+    ensures { λ r. ⌜ Decides r ((j : ℕ) → j < i → getD (t .rows) j noRow ≡ getD (t .rows) i noRow → ⊥) ⌝ }
+{
+    if new_key(keys, i, k) {
+        return true;
+    }
+    new_row(t, i)
+}
+
 // Whether the rows below the count are distinct.
 fn distinct_rows(t: Table) -> bool
     requires { ⌜ t .count ≤ 64 ⌝ }
     ensures { λ r. ⌜ Decides r ((i j : ℕ) → i < t .count → j < t .count → getD (t .rows) i noRow ≡ getD (t .rows) j noRow → i ≡ j) ⌝ }
 {
     let n = t.count;
-    let mut i = 0;
+    let mut keys = [0u64; 64];
+    let mut i: usize = 0;
     while i < n {
-        if !new_row(t, i) {
+        let x = t.rows[i];
+        let k = row_key(x);
+        if !differs(t, &keys, i, k) {
             return false;
         }
+        keys[i] = k;
         i += 1;
     }
     true

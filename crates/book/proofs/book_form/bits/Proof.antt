@@ -1,26 +1,25 @@
 use Prim.Native.Nat.{ℕ, _≤_, _<_, _-_}
 use native.Mathlib.Omega.{arith}
 use borrow.Author.Needs.{needs}
-use borrow.Author.Count.{below-more}
 use lib.ListN.{length, getD}
-use Rattle.book.proofs.Loops.{all-bits}
+use Rattle.book.proofs.Loops.{most-more, most-decides}
 use Rattle.book.proofs.book_form.bits.Statement.{statement}
 use Rattle.book.proofs.book_form.bits.Tie as tie
 
 abbrev Inv-loop : tie.InvT-loop
-Inv-loop s n i₀ i = (i ≤ length s) × ((k : ℕ) → k < i → getD s k 0 ≤ 1)
+Inv-loop s n m₀ i₀ m i = (i ≤ length s) × ((k : ℕ) → k < i → getD s k 0 ≤ m) × (((k : ℕ) → getD s k 0 ≤ 1) → m ≤ 1)
 
 abbrev μ-loop : tie.MeasureT-loop
-μ-loop s n i₀ i = length s - i
+μ-loop s n m₀ i₀ m i = length s - i
 
 loop-holds : tie.Need-loop-holds Inv-loop μ-loop
-loop-holds c = (search needs, λ k l. absurd (omega arith))
+loop-holds c = (search needs, (λ k l. absurd (omega arith)), λ f. omega arith)
 
-shared-slice-read-if1 : tie.Need-shared-slice-read-if1 Inv-loop μ-loop
-shared-slice-read-if1 c = search needs
+shared-slice-read-larger : tie.Need-shared-slice-read-larger Inv-loop μ-loop
+shared-slice-read-larger c = search needs
 
-returns : tie.Need-returns Inv-loop μ-loop
-returns c = λ f. omega (arith, f ((c .before .before .before .loop) .i))
+larger-requires : tie.Need-larger-requires Inv-loop μ-loop
+larger-requires c κs = search needs
 
 add-i : tie.Need-add-i Inv-loop μ-loop
 add-i c = search needs
@@ -29,10 +28,10 @@ loop-less : tie.Need-loop-less Inv-loop μ-loop
 loop-less c = search needs
 
 loop-again : tie.Need-loop-again Inv-loop μ-loop
-loop-again c = (search needs, below-more _ _ ((c .before .before .before .loop) .inv .1) ((c .if1) .left))
+loop-again c = (search needs, most-more (c .before .before .before .before .before .args .s .now) (c .before .before .before .loop .i) (c .before .before .before .loop .m) (c .larger .result) (c .before .before .before .loop .inv .1) (c .larger .ensures .0) (c .larger .ensures .1), λ f. c .larger .ensures .2 1 (c .before .before .before .loop .inv .2 f) (f (c .before .before .before .loop .i)))
 
-returns-2 : tie.Need-returns-2 Inv-loop μ-loop
-returns-2 c = all-bits ((c .before .before .args) .s .now) ((c .before .loop) .i) ((c .loop-test) .left) ((c .before .loop) .inv .1)
+returns : tie.Need-returns Inv-loop μ-loop
+returns c = most-decides (c .before .before .before .args .s .now) (c .before .loop .i) (c .before .loop .m) (c .loop-test .left) (c .before .loop .inv .1) (c .before .loop .inv .2)
 
 pub bits-spec : {M : Type 1} → statement M
 bits-spec =
@@ -41,9 +40,9 @@ bits-spec =
     Inv-loop
     μ-loop
     loop-holds
-    shared-slice-read-if1
-    returns
+    shared-slice-read-larger
+    larger-requires
     add-i
     loop-less
     loop-again
-    returns-2)
+    returns)
