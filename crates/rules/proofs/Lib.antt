@@ -9,6 +9,8 @@ pub mod BitLaws
 pub mod Places
 pub mod Turning
 pub mod Needing
+pub mod Cueing
+pub mod Gapping
 pub mod Growth
 pub mod Sweeping
 pub mod Coursing

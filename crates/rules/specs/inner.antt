@@ -2,6 +2,8 @@
 pub mod Bits
 pub mod Layout
 pub mod Turn
+pub mod Cues
 pub mod Grant
+pub mod Rule
 pub mod Grown
 pub mod Course
