@@ -3,7 +3,6 @@
 
 pub const PRINS: usize = 16;
 pub const GRANTS: usize = 64;
-pub const PACKS: usize = 32;
 pub const CONCLUSIONS: usize = 144 * PRINS;
 pub const MARKS: usize = CONCLUSIONS * (PRINS + 1);
 pub const JOURNAL_LIMIT: usize = 65_536;
@@ -89,6 +88,8 @@ pub struct Book {
     names: Vec<Vec<u8>>,
     pub journal: Vec<u8>,
     pub records: usize,
+    /// the records that enter or issue
+    pub entries: Vec<Vec<u8>>,
     /// the shortest record that enters a trusted grant that stands
     pub again: Vec<u8>,
 }
@@ -101,6 +102,7 @@ impl Book {
             names: vec![],
             journal: vec![],
             records: 0,
+            entries: vec![],
             again: vec![],
         }
     }
@@ -176,6 +178,7 @@ impl Book {
         write_grant(g, &mut rec);
         self.journal.extend(&rec);
         self.records += 1;
+        self.entries.push(rec.clone());
         if self.again.is_empty() || rec.len() <= self.again.len() {
             self.again = rec;
         }
@@ -184,10 +187,12 @@ impl Book {
     pub fn issue(&mut self, p: u8, g: &Grant) {
         let n = self.number(g);
         self.rows[n].issued[p as usize] = true;
-        self.journal.extend(b"LI");
-        self.journal.push(p);
-        write_grant(g, &mut self.journal);
+        let mut rec = b"LI".to_vec();
+        rec.push(p);
+        write_grant(g, &mut rec);
+        self.journal.extend(&rec);
         self.records += 1;
+        self.entries.push(rec);
     }
 
     /// A query that numbers the grant and lets nothing stand.
@@ -198,17 +203,40 @@ impl Book {
         self.records += 1;
     }
 
-    /// The journal that builds the book and then enters a standing grant k times.
-    pub fn journal_again(&self, k: usize) -> Vec<u8> {
-        let mut j = self.journal.clone();
-        for _ in 0..k {
-            j.extend(&self.again);
+    /// The bytes of each grant that has a number.
+    pub fn names(&self) -> &[Vec<u8>] {
+        &self.names
+    }
+
+    /// A record as long as `again` that strikes a grant which isn't trusted.
+    pub fn refused(&self) -> Vec<u8> {
+        for (k, p) in (0..16).flat_map(|k| (0..16).map(move |p| (k, p))) {
+            let mut grant = self.again[2..].to_vec();
+            assert_eq!(
+                grant.len(),
+                6,
+                "{}: the shortest trusted grant is no fact",
+                self.name
+            );
+            grant[2..].copy_from_slice(&[0, 0, k, p]);
+            let known = self.names.iter().position(|g| *g == grant);
+            if !known.is_some_and(|n| self.rows[n].trusted) {
+                return [b"ST", grant.as_slice()].concat();
+            }
         }
+        panic!("{}: every short grant is trusted", self.name)
+    }
+
+    /// The journal that builds the book, then a record k times.
+    pub fn journal_with(&self, record: &[u8], k: usize) -> Vec<u8> {
+        let mut j = self.journal.clone();
+        (0..k).for_each(|_| j.extend(record));
         assert!(j.len() <= JOURNAL_LIMIT);
         j
     }
 
-    pub fn room(&self) -> usize {
-        (JOURNAL_LIMIT - self.journal.len()) / self.again.len()
+    /// How often a record fits behind the journal that builds the book.
+    pub fn room(&self, record: &[u8]) -> usize {
+        (JOURNAL_LIMIT - self.journal.len()) / record.len()
     }
 }

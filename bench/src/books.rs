@@ -193,6 +193,120 @@ fn chain(name: &str, x: bool, y: bool, z: bool, many: bool) -> Book {
     b
 }
 
+/// A chain of sayings, each of which wakes every heavy row once more. The
+/// token "t said that p may issue grant i" goes down the principals, then to
+/// the next of `tellers`, then to the next of `grants`. Each of `heavy` rows
+/// reads what anyone says of rights to issue, under every pair of principals;
+/// three of its conditions hold for all and the last for none. They are
+/// numbered before the chain.
+pub fn wakes(tellers: u8, grants: usize, heavy: u8) -> Book {
+    let mut b = Book::new(&format!(
+        "wakes, {} steps, {} rows",
+        16 * tellers as usize * grants,
+        heavy
+    ));
+    b.trust(&short());
+    let everyone = [
+        grant(1, 0, vec![], Prop(14, X)),
+        grant(1, 0, vec![], Prop(12, X)),
+    ];
+    everyone.iter().for_each(|g| b.name(g));
+    let never = Box::new(short());
+    for i in 0..heavy {
+        let conds = vec![
+            (X, Prop(14, Y)),
+            (Y, Prop(14, X)),
+            (X, Prop(12, Y)),
+            (Y, Issue(X, never.clone())),
+        ];
+        b.issue(
+            i % 16,
+            &grant(2, 0, conds, Prop(i / 2 % 12, [X, Y][i as usize % 2])),
+        );
+    }
+    let below: Vec<Grant> = (0..15).map(|p| fact(Prop(15, p))).collect();
+    (0..15).for_each(|p| b.issue(p + 1, &below[p as usize]));
+    for t in (0..tellers).rev() {
+        let along = vec![(X, Prop(15, Y)), (t, IssueVar(X))];
+        b.issue(t, &grant(2, 1, along, IssueVar(Y)));
+        if t > 0 {
+            b.issue(t, &grant(0, 1, vec![(t - 1, IssueVar(0))], IssueVar(15)));
+        }
+    }
+    let over: Vec<Grant> = below.into_iter().chain(everyone.clone()).collect();
+    for i in (1..grants).rev() {
+        let (from, to) = (over[i - 1].clone(), over[i].clone());
+        let cond = vec![(tellers - 1, Issue(0, Box::new(from)))];
+        b.issue(0, &grant(0, 0, cond, Issue(15, Box::new(to))));
+    }
+    by_all(&mut b, &everyone);
+    b.issue(0, &fact(Issue(15, Box::new(over[0].clone()))));
+    b
+}
+
+/// Rows that differ in their last bytes alone, with four conditions that hold
+/// inner grants; none holds.
+fn prefixes() -> Book {
+    let mut b = Book::new("63 rows, one prefix");
+    b.trust(&short());
+    let inner = Box::new(short());
+    let conds = vec![
+        (X, Issue(Y, inner.clone())),
+        (Y, Issue(X, inner.clone())),
+        (X, Prop(14, Y)),
+        (Y, Prop(14, X)),
+    ];
+    for i in 0..63u8 {
+        b.issue(i % 16, &grant(2, 1, conds.clone(), Prop(i % 16, i / 16)));
+    }
+    b
+}
+
+/// Grants to depth 4: each lets its principal issue one that lets it issue
+/// the next.
+fn deep() -> Book {
+    let mut b = Book::new("15 grants of depth 4");
+    b.trust(&short());
+    (0..3).for_each(|k| b.trust(&fact(Prop(14, k))));
+    for p in 0..15u8 {
+        let mut g = fact(Prop(p, p));
+        for _ in 0..3 {
+            b.issue(p, &g);
+            g = fact(Issue(p, Box::new(g)));
+        }
+        b.trust(&g);
+    }
+    b
+}
+
+/// 60 rows whose principal variables stand in conditions alone; three hold for
+/// everyone and the last for none.
+fn apart() -> Book {
+    let mut b = Book::new("x and y in conditions alone, 60 rows");
+    b.trust(&short());
+    sayings().iter().for_each(|g| b.name(g));
+    for i in 0..60u8 {
+        let conds = vec![
+            (X, IssueVar(Y)),
+            (Y, IssueVar(X)),
+            (X, Prop(i % 2, Y)),
+            (Y, Prop(8 + i / 12, X)),
+        ];
+        b.issue(i % 16, &grant(2, 1, conds, Prop(2 + i / 2 % 6, i % 16)));
+    }
+    by_all(&mut b, &sayings());
+    b
+}
+
+/// The books of the table, and more chains that wake heavy rows.
+pub fn for_worst() -> Vec<Book> {
+    let mut books = all();
+    for (tellers, grants, heavy) in [(4, 16, 18), (8, 10, 20), (8, 16, 14), (10, 14, 12)] {
+        books.push(wakes(tellers, grants, heavy));
+    }
+    books
+}
+
 pub fn all() -> Vec<Book> {
     vec![
         small(),
@@ -208,6 +322,11 @@ pub fn all() -> Vec<Book> {
         chain("chain, x and grant", true, false, true, false),
         chain("chain, x y and grant", true, true, true, false),
         chain("chain, x y and grant, 16 tokens", true, true, true, true),
+        apart(),
+        prefixes(),
+        deep(),
+        wakes(1, 17, 25),
+        wakes(8, 14, 16),
     ]
 }
 

@@ -1,226 +1,171 @@
-// Prints the table: what one evaluation of a whole book costs, by the listing
-// program, by a hand-written evaluator and by gringo, side by side.
+// Prints the table: what one evaluation and one whole record cost, by the
+// listing program, by hand-written programs and by gringo, side by side.
 
+mod agree;
 mod book;
 mod books;
 mod datalog;
 mod hand;
+mod hand_book;
+mod measure;
+mod picture;
+mod worst;
 
-use book::Book;
-use hand::Hand;
-use std::fs::{self, File};
+use book::{Book, GRANTS};
+use measure::best;
+use picture::{Panel, SIZES};
+use std::fs;
+use std::hint::black_box;
 use std::path::{Path, PathBuf};
-use std::process::{exit, Command, Stdio};
-use std::time::Instant;
+use std::process::{exit, Command};
 
 const ROUNDS: usize = 5;
 const DRAWN: u64 = 100;
+/// Records run on a book so long for one measurement, in seconds.
+const STRETCH: f64 = 0.06;
+const QUERY: &[u8] = b"QU\0\x02\x02";
 
-struct Tools {
-    listing: PathBuf,
-    dir: PathBuf,
-    /// gringo is installed
-    gringo: bool,
-    /// gringo's time on an empty program
-    empty: f64,
+pub struct Tools {
+    pub listing: PathBuf,
+    /// this program, which is the hand-written book with --list
+    pub this: PathBuf,
+    pub dir: PathBuf,
+    pub gringo: bool,
 }
 
+/// Seconds, each for one record or one evaluation.
 struct Row {
     name: String,
     rows: usize,
     marks: usize,
-    ours: f64,
-    hand: f64,
+    record: f64,
+    hand_record: f64,
+    evaluation: f64,
+    hand_evaluation: f64,
     gringo: f64,
 }
 
-fn fail(text: String) -> ! {
-    eprintln!("bench: {}", text);
-    exit(1)
-}
-
-/// Wall time of a program with a file as its input and its output thrown away.
-fn wall(program: &Path, input: &Path) -> f64 {
-    let file = File::open(input).unwrap_or_else(|e| fail(format!("{}: {}", input.display(), e)));
-    let start = Instant::now();
-    let status = Command::new(program)
-        .stdin(file)
-        .stdout(Stdio::null())
-        .stderr(Stdio::null())
-        .status()
-        .unwrap_or_else(|e| fail(format!("{}: {}", program.display(), e)));
-    let t = start.elapsed().as_secs_f64();
-    if !status.success() {
-        fail(format!("{} ended with {}", program.display(), status));
+impl Row {
+    fn by_evaluation(&self) -> f64 {
+        self.evaluation / self.hand_evaluation
     }
-    t
-}
-
-fn output(program: &Path, args: &[&str], input: &Path) -> String {
-    let file = File::open(input).unwrap_or_else(|e| fail(format!("{}: {}", input.display(), e)));
-    let out = Command::new(program)
-        .args(args)
-        .stdin(file)
-        .output()
-        .unwrap_or_else(|e| fail(format!("{}: {}", program.display(), e)));
-    String::from_utf8_lossy(&out.stdout).into_owned()
-}
-
-/// Marks at the end of the listing, all records accepted.
-fn listing_marks(t: &Tools, b: &Book, again: usize) -> usize {
-    let at = t.dir.join("check.journal");
-    fs::write(&at, b.journal_again(again)).unwrap();
-    let text = output(&t.listing, &[], &at);
-    let last = text.lines().last().unwrap_or("").to_string();
-    let want = format!("end {} marks ", b.records + again);
-    if text.contains("refused") || !last.starts_with(&want) {
-        fail(format!(
-            "{}: the listing ended with '{}', not '{}N'",
-            b.name, last, want
-        ));
+    fn by_record(&self) -> f64 {
+        self.record / self.hand_record
     }
-    last[want.len()..].parse().unwrap()
-}
-
-fn gringo_marks(t: &Tools, b: &Book) -> usize {
-    let at = t.dir.join("check.lp");
-    fs::write(&at, datalog::program(b)).unwrap();
-    let text = output(Path::new("gringo"), &["--text"], &at);
-    let mut n = 0;
-    for l in text.lines() {
-        if l.starts_with("truth(") || l.starts_with("said(") {
-            if l.contains(":-") {
-                fail(format!("{}: gringo left a rule open: {}", b.name, l));
-            }
-            n += 1;
-        }
+    fn by_gringo(&self) -> f64 {
+        self.record / self.gringo
     }
-    n
 }
 
-/// All have to come to the same number of marks.
-fn agree(t: &Tools, h: &mut Hand, b: &Book, again: usize) -> usize {
-    let ours = listing_marks(t, b, again);
-    h.evaluate(&b.rows);
-    let hand = h.count();
-    let gringo = if t.gringo { gringo_marks(t, b) } else { ours };
-    if ours != hand || ours != gringo {
-        fail(format!(
-            "{}: marks differ: listing {}, hand-written {}, gringo {}",
-            b.name, ours, hand, gringo
-        ));
-    }
-    ours
+fn write(at: &Path, bytes: &[u8]) {
+    fs::write(at, bytes).unwrap_or_else(|e| panic!("{}: {}", at.display(), e));
 }
 
-/// How often to enter again, fewer times and more: enough for the difference to
-/// be seen beside the rest of the run.
-fn times_again(t: &Tools, b: &Book) -> (usize, usize) {
+/// How often a record stands behind a book in a measurement.
+fn times(t: &Tools, b: &Book, record: &[u8], program: &Path, args: &[&str]) -> usize {
     let at = t.dir.join("probe.journal");
-    let room = b.room();
-    let probe = room.min(10);
-    let time = |again: usize| {
-        fs::write(&at, b.journal_again(again)).unwrap();
-        wall(&t.listing, &at).min(wall(&t.listing, &at))
+    let room = b.room(record);
+    let time = |k: usize| {
+        write(&at, &b.journal_with(record, k));
+        measure::program(program, args, &at).min(measure::program(program, args, &at))
     };
-    let base = time(0);
-    let one = ((time(probe) - base) / probe as f64).max(2e-6);
-    let most = ((0.1f64.max(0.4 * base) / one) as usize).clamp(16, room);
-    (most / 8, most)
+    let (base, probe) = (time(0), room.min(10));
+    let one = ((time(probe) - base) / probe as f64).max(1e-6);
+    ((STRETCH / one) as usize).clamp(3.min(room), room)
 }
 
-/// How often the hand-written evaluator runs in one measured stretch.
-fn repeats(h: &mut Hand, b: &Book) -> usize {
-    h.evaluate(&b.rows);
-    let start = Instant::now();
-    h.evaluate(&b.rows);
-    ((0.01 / start.elapsed().as_secs_f64().max(1e-7)) as usize).clamp(3, 20_000)
+/// What one more of a record costs: `more` journals against the book alone.
+fn each(more: f64, base: f64, k: usize) -> f64 {
+    (more - base) / k as f64
 }
 
-fn hand_time(h: &mut Hand, b: &Book, reps: usize) -> f64 {
-    let start = Instant::now();
-    for _ in 0..reps {
-        h.evaluate(std::hint::black_box(&b.rows));
+/// The hand-written evaluation: from rows and flags to 39,168 bytes.
+fn hand_evaluation(hand: &mut hand_book::Book) -> impl FnMut() -> f64 + '_ {
+    let mut once = move || {
+        hand.table.evaluate(black_box(&mut hand.words));
+        hand::write_marks(&hand.words, black_box(&mut hand.marks));
+    };
+    let start = measure::now();
+    once();
+    let reps = (0.004 / (measure::now() - start).max(1e-7)).clamp(3.0, 5_000.0) as usize;
+    move || {
+        let start = measure::now();
+        (0..reps).for_each(|_| once());
+        (measure::now() - start) / reps as f64
     }
-    start.elapsed().as_secs_f64() / reps as f64
 }
 
-fn gringo_time(program: &Path) -> f64 {
-    wall(Path::new("gringo"), program)
-}
-
-fn measure(t: &mut Tools, h: &mut Hand, b: &Book) -> Row {
-    let marks = agree(t, h, b, 3);
-    let low = t.dir.join("low.journal");
-    let high = t.dir.join("high.journal");
-    let lp = t.dir.join("book.lp");
-    let none = t.dir.join("empty.lp");
-    let (fewer, more) = times_again(t, b);
-    fs::write(&low, b.journal_again(fewer)).unwrap();
-    fs::write(&high, b.journal_again(more)).unwrap();
-    fs::write(&lp, datalog::program(b)).unwrap();
-    fs::write(&none, "").unwrap();
-    let reps = repeats(h, b);
-    let (mut a, mut c, mut hand, mut gringo) = (f64::MAX, f64::MAX, f64::MAX, f64::MAX);
-    for _ in 0..ROUNDS {
-        a = a.min(wall(&t.listing, &low));
-        c = c.min(wall(&t.listing, &high));
-        hand = hand.min(hand_time(h, b, reps)).min(hand_time(h, b, reps));
-        if t.gringo {
-            gringo = gringo.min(gringo_time(&lp)).min(gringo_time(&lp));
-            t.empty = t.empty.min(gringo_time(&none)).min(gringo_time(&none));
-        }
-    }
-    if h.count() != marks {
-        fail(format!(
-            "{}: the hand-written evaluator changed its mind",
-            b.name
-        ));
-    }
-    // Gringo's time still holds the empty program's, which is known once all ran.
-    let ours = (c - a) / (more - fewer) as f64;
+fn measure_book(t: &Tools, empty: &mut f64, b: &Book) -> Row {
+    let (marks, _) = agree::agree(t, b);
+    let refused = b.refused();
+    let at = |name: &str| t.dir.join(name);
+    let (base, again, turned) = (at("base"), at("again"), at("turned"));
+    let (hand_again, lp, none) = (at("hand"), at("book.lp"), at("empty.lp"));
+    let k = times(t, b, &b.again, &t.listing, &[]);
+    let hand_k = times(t, b, &b.again, &t.this, &["--list"]);
+    let turned_k = b.room(&refused);
+    write(&base, &b.journal);
+    write(&again, &b.journal_with(&b.again, k));
+    write(&turned, &b.journal_with(&refused, turned_k));
+    write(&hand_again, &b.journal_with(&b.again, hand_k));
+    write(&lp, datalog::program(b).as_bytes());
+    write(&none, b"");
+    let mut hand = hand_book::Book::new();
+    hand.take(&b.journal);
+    let ours = |file: &Path| measure::program(&t.listing, &[], file);
+    let by_hand = |file: &Path| measure::program(&t.this, &["--list"], file);
+    let gringo = |file: &Path| match t.gringo {
+        true => measure::program(Path::new("gringo"), &[], file),
+        false => f64::NAN,
+    };
+    let mut evaluation = hand_evaluation(&mut hand);
+    let mut several = || (0..4).map(|_| evaluation()).fold(f64::MAX, f64::min);
+    let found = best(
+        ROUNDS,
+        &mut [
+            &mut || ours(&base),
+            &mut || ours(&again),
+            &mut || ours(&turned),
+            &mut || by_hand(&base),
+            &mut || by_hand(&hand_again),
+            &mut several,
+            &mut || gringo(&lp),
+            &mut || gringo(&none),
+        ],
+    );
+    *empty = empty.min(found[7]);
+    let record = each(found[1], found[0], k);
     Row {
         name: b.name.clone(),
         rows: b.rows.len(),
         marks,
-        ours,
-        hand,
-        gringo,
+        record,
+        hand_record: each(found[4], found[3], hand_k),
+        evaluation: record - each(found[2], found[0], turned_k),
+        hand_evaluation: found[5],
+        // Still with the empty program's time, which is known once all ran.
+        gringo: found[6],
     }
 }
 
-/// What a record costs that evaluates nothing: a query, on a fresh book.
-fn query(t: &Tools) -> f64 {
-    let (low, high) = (t.dir.join("low.journal"), t.dir.join("high.journal"));
-    fs::write(&low, b"QU\0\x02\x02".repeat(1_000)).unwrap();
-    fs::write(&high, b"QU\0\x02\x02".repeat(13_000)).unwrap();
-    let (mut a, mut c) = (f64::MAX, f64::MAX);
+/// What a query costs on a book, and on an empty one.
+fn query(t: &Tools, b: &Book) -> (f64, f64) {
+    let k = b.room(QUERY).min(8_000);
+    let journals = [
+        b.journal.clone(),
+        b.journal_with(QUERY, k),
+        vec![],
+        QUERY.repeat(k),
+    ];
+    let mut least = [f64::MAX; 4];
     for _ in 0..ROUNDS {
-        a = a.min(wall(&t.listing, &low));
-        c = c.min(wall(&t.listing, &high));
-    }
-    (c - a) / 12_000.0
-}
-
-/// What the counts of marks gained and lost cost by hand: keep the marks, compare.
-fn counts(h: &Hand) -> f64 {
-    let mut before = vec![0u8; h.marks.len()];
-    let mut best = f64::MAX;
-    for _ in 0..200 {
-        let start = Instant::now();
-        before.copy_from_slice(std::hint::black_box(&h.marks));
-        let (mut gained, mut lost) = (0u32, 0u32);
-        for (a, b) in std::hint::black_box(&before)
-            .iter()
-            .zip(std::hint::black_box(&h.marks))
-        {
-            gained += (*a < *b) as u32;
-            lost += (*a > *b) as u32;
+        for (journal, least) in journals.iter().zip(&mut least) {
+            let at = t.dir.join("query");
+            write(&at, journal);
+            *least = least.min(measure::program(&t.listing, &[], &at));
         }
-        std::hint::black_box((gained, lost));
-        best = best.min(start.elapsed().as_secs_f64());
     }
-    best
+    (each(least[1], least[0], k), each(least[3], least[2], k))
 }
 
 fn us(s: f64) -> String {
@@ -244,22 +189,32 @@ fn ratio(x: f64, limit: f64, digits: usize) -> String {
     }
 }
 
-fn goal(text: &str, rows: &[Row], ratio: impl Fn(&Row) -> f64, limit: f64) {
-    if rows.iter().any(|r| ratio(r).is_nan()) {
+const GRINGO_GOAL: f64 = 0.1;
+const HAND_GOAL: f64 = 2.0;
+const QUERY_GOAL: f64 = 3.0;
+const JOURNAL_GOAL: f64 = 3.0;
+
+/// Says whether each of the named figures is within the limit.
+fn goal(text: &str, figures: &[(&str, f64)], limit: f64, unit: &str) {
+    let named = |(name, x): &(&str, f64)| format!("{} ({:.2}{})", name, x, unit);
+    if figures.is_empty() || figures.iter().any(|f| f.1.is_nan()) {
         println!("goal {}: not measured", text);
         return;
     }
-    let over: Vec<String> = rows
-        .iter()
-        .filter(|r| ratio(r) > limit)
-        .map(|r| format!("{} ({:.2})", r.name, ratio(r)))
-        .collect();
-    let (n, all) = (over.len(), rows.len());
+    let over: Vec<String> = figures.iter().filter(|f| f.1 > limit).map(named).collect();
+    let (n, all) = (over.len(), figures.len());
+    let most = figures.iter().max_by(|a, b| a.1.total_cmp(&b.1)).map(named);
     if n == 0 {
-        println!("goal {}: reached on all {} books", text, all);
+        println!(
+            "goal {}: reached on {} of {}, the most {}",
+            text,
+            all,
+            all,
+            most.unwrap()
+        );
     } else {
         println!(
-            "goal {}: NOT REACHED on {} of {} books: {}",
+            "goal {}: NOT REACHED on {} of {}: {}",
             text,
             n,
             all,
@@ -268,141 +223,203 @@ fn goal(text: &str, rows: &[Row], ratio: impl Fn(&Row) -> f64, limit: f64) {
     }
 }
 
-fn hand_ratio(r: &Row) -> f64 {
-    r.ours / r.hand
-}
-
-fn gringo_ratio(r: &Row) -> f64 {
-    r.ours / r.gringo
-}
-
 fn print_table(rows: &[Row]) {
     println!(
-        "{:<43} {:>4} {:>6} {:>9} {:>12} {:>9} {:>17} {:>11}",
+        "{:<43} {:>4} {:>6} | {:>8} {:>8} {:>7} | {:>8} {:>8} {:>7} | {:>8} {:>8}",
+        "", "", "", "evaluation", "alone", "", "whole", "record", "", "", "record/"
+    );
+    println!(
+        "{:<43} {:>4} {:>6} | {:>10} {:>8} {:>7} | {:>8} {:>8} {:>7} | {:>8} {:>8}",
         "book",
         "rows",
         "marks",
         "ours",
-        "hand-written",
+        "by hand",
+        "ratio",
+        "ours",
+        "by hand",
+        "ratio",
         "gringo",
-        "ours/hand-written",
-        "ours/gringo"
+        "gringo"
     );
     for r in rows {
-        let (h, g) = (hand_ratio(r), gringo_ratio(r));
         println!(
-            "{:<43} {:>4} {:>6} {:>9} {:>12} {:>9} {:>17} {:>11}",
+            "{:<43} {:>4} {:>6} | {:>10} {:>8} {:>7} | {:>8} {:>8} {:>7} | {:>8} {:>8}",
             r.name,
             r.rows,
             r.marks,
-            us(r.ours),
-            us(r.hand),
+            us(r.evaluation),
+            us(r.hand_evaluation),
+            ratio(r.by_evaluation(), HAND_GOAL, 2),
+            us(r.record),
+            us(r.hand_record),
+            ratio(r.by_record(), HAND_GOAL, 2),
             us(r.gringo),
-            ratio(h, 2.0, 2),
-            ratio(g, 1.0, 4)
+            ratio(r.by_gringo(), GRINGO_GOAL, 4)
         );
     }
     println!("(! marks a ratio over its goal)");
 }
 
-fn print_growth(grow: &[(&str, Vec<Row>)]) {
+fn print_growth(grow: &[(&str, Vec<Row>)]) -> Vec<Panel> {
     println!("growth with rows, as a ratio to the first");
     println!(
         "{:<43} {:>7} {:>7} {:>7} {:>7}",
-        "kind of row, evaluator", "10", "20", "40", "60"
+        "kind of row, evaluation", SIZES[0], SIZES[1], SIZES[2], SIZES[3]
     );
     let parts: [(&str, fn(&Row) -> f64); 3] = [
-        ("ours", |r| r.ours),
-        ("hand-written", |r| r.hand),
+        ("ours", |r| r.evaluation),
+        ("by hand", |r| r.hand_evaluation),
         ("gringo", |r| r.gringo),
     ];
+    let mut panels = vec![];
     for (name, v) in grow {
+        let mut lines = vec![];
         for (who, f) in parts {
-            let ratios: Vec<String> = v
+            let costs: Vec<f64> = v.iter().map(|r| f(r) * 1e6).collect();
+            let ratios: Vec<String> = costs
                 .iter()
-                .map(|r| format!("{:>7.2}", f(r) / f(&v[0])))
+                .map(|c| format!("{:>7.2}", c / costs[0]))
                 .collect();
             println!("{:<43} {}", format!("{}: {}", name, who), ratios.join(" "));
+            lines.push((who.to_string(), costs));
         }
+        panels.push(Panel {
+            title: name.to_string(),
+            lines,
+        });
+    }
+    panels
+}
+
+fn print_worst(found: &[worst::Found]) {
+    println!("the worst journal of 65,536 bytes found, for each way of filling it up");
+    for f in found {
+        let how = match f.run == f.times {
+            true => "run whole".to_string(),
+            false => format!("worked out from {} of them", f.run),
+        };
+        println!(
+            "{:>9.2} s  {}, then {} times {} ({})",
+            f.seconds, f.book, f.times, f.fill, how
+        );
     }
 }
 
-fn measure_growth(t: &mut Tools, h: &mut Hand) -> Vec<(&'static str, Vec<Row>)> {
+fn measure_growth(t: &Tools, empty: &mut f64) -> Vec<(&'static str, Vec<Row>)> {
     let kinds: [(&str, fn(u8) -> Book); 2] = [
         ("variables, conditions hold", books::variables),
         ("four conditions, none hold", books::never),
     ];
-    kinds
-        .iter()
-        .map(|(n, f)| {
-            (
-                *n,
-                [10u8, 20, 40, 60]
-                    .iter()
-                    .map(|s| measure(t, h, &f(*s)))
-                    .collect(),
-            )
-        })
-        .collect()
+    let mut grow = vec![];
+    for (name, make) in kinds {
+        let rows = SIZES.iter().map(|n| measure_book(t, empty, &make(*n)));
+        grow.push((name, rows.collect()));
+    }
+    grow
 }
 
 fn main() {
     let args: Vec<String> = std::env::args().collect();
-    if args.len() != 3 {
-        fail("usage: bench LISTING-PROGRAM WORK-FOLDER".into());
+    if args.len() == 2 && args[1] == "--list" {
+        return hand_book::list();
     }
-    let listing =
-        fs::canonicalize(&args[1]).unwrap_or_else(|e| fail(format!("{}: {}", args[1], e)));
+    if args.len() != 4 {
+        eprintln!("usage: bench LISTING-PROGRAM WORK-FOLDER PICTURE, or bench --list");
+        exit(2);
+    }
     let gringo = Command::new("gringo").arg("--version").output().is_ok();
-    let mut t = Tools {
-        listing,
+    let t = Tools {
+        listing: fs::canonicalize(&args[1]).unwrap_or_else(|e| panic!("{}: {}", args[1], e)),
+        this: std::env::current_exe().expect("this program has a path"),
         dir: PathBuf::from(&args[2]),
         gringo,
-        empty: f64::MAX,
     };
-    let mut h = Hand::new();
-    let most = (1..=DRAWN)
-        .map(|seed| agree(&t, &mut h, &books::drawn(seed), 0))
-        .max()
-        .unwrap_or(0);
-
-    let mut rows: Vec<Row> = books::all()
-        .iter()
-        .map(|b| measure(&mut t, &mut h, b))
+    let drawn: Vec<_> = (1..=DRAWN)
+        .map(|n| agree::agree(&t, &books::drawn(n)))
         .collect();
-    let mut grow = measure_growth(&mut t, &mut h);
-    for r in rows
-        .iter_mut()
-        .chain(grow.iter_mut().flat_map(|(_, v)| v.iter_mut()))
-    {
+    let most = drawn.iter().map(|(marks, _)| *marks).max().unwrap_or(0);
+    let lines: usize = drawn.iter().map(|(_, lines)| *lines).sum();
+
+    let table = books::all();
+    let mut empty = f64::MAX;
+    let mut rows: Vec<Row> = table
+        .iter()
+        .map(|b| measure_book(&t, &mut empty, b))
+        .collect();
+    let mut grow = measure_growth(&t, &mut empty);
+    for r in rows.iter_mut().chain(grow.iter_mut().flat_map(|(_, v)| v)) {
         // Below a hundredth of the empty program the difference says nothing.
-        r.gringo = if t.gringo {
-            (r.gringo - t.empty).max(t.empty / 100.0)
-        } else {
-            f64::NAN
-        };
+        r.gringo = (r.gringo - empty).max(empty / 100.0);
+        if !gringo {
+            r.gringo = f64::NAN;
+        }
     }
+    let queries: Vec<(&str, (f64, f64))> = table
+        .iter()
+        .filter(|b| b.rows.len() == GRANTS)
+        .map(|b| (b.name.as_str(), query(&t, b)))
+        .collect();
+    let worst = worst::search(&t, &books::for_worst());
 
     println!(
-        "marks agree on {} drawn books (up to {} marks) and on every book below\n",
-        DRAWN, most
+        "the same marks and lines on {} drawn books (up to {} marks, {} lines) and on every book below\n",
+        DRAWN, most, lines
     );
-    let other = if gringo {
-        format!("less its empty program ({})", us(t.empty))
-    } else {
-        "is not installed".into()
+    let other = match gringo {
+        true => format!("less its empty program ({})", us(empty)),
+        false => "is not installed".into(),
     };
-    println!("times per evaluation in microseconds; gringo {}", other);
+    println!("processor time in microseconds; gringo {}", other);
     print_table(&rows);
-    let (q, c) = (us(query(&t)), us(counts(&h)));
-    println!("ours holds the whole record: reading, numbering, counts and its line; a query record costs {}, counts by hand {}\n", q, c);
-    print_growth(&grow);
     println!();
-    goal("never slower than gringo", &rows, gringo_ratio, 1.0);
+    println!("a query on a book of 64 rows, beside one on an empty book");
+    for (name, (with, without)) in &queries {
+        let r = ratio(with / without, QUERY_GOAL, 2);
+        println!("{:<43} {:>8} {:>8} {:>7}", name, us(*with), us(*without), r);
+    }
+    println!();
+    let panels = print_growth(&grow);
+    println!("{}\n", picture::draw(&panels, &t.dir, Path::new(&args[3])));
+    print_worst(&worst);
+    println!();
+    let of = |f: fn(&Row) -> f64| -> Vec<(&str, f64)> {
+        rows.iter().map(|r| (r.name.as_str(), f(r))).collect()
+    };
     goal(
-        "within 2 times the hand-written evaluator",
-        &rows,
-        hand_ratio,
-        2.0,
+        "at most 0.1 times gringo",
+        &of(Row::by_gringo),
+        GRINGO_GOAL,
+        "",
+    );
+    goal(
+        "evaluation alone at most 2 times the hand-written",
+        &of(Row::by_evaluation),
+        HAND_GOAL,
+        "",
+    );
+    goal(
+        "whole record at most 2 times the hand-written book's",
+        &of(Row::by_record),
+        HAND_GOAL,
+        "",
+    );
+    let ratios: Vec<(&str, f64)> = queries.iter().map(|(n, (a, b))| (*n, a / b)).collect();
+    goal(
+        "a query on 64 rows at most 3 times one on an empty book",
+        &ratios,
+        QUERY_GOAL,
+        "",
+    );
+    let longest: Vec<(&str, f64)> = worst
+        .iter()
+        .take(1)
+        .map(|f| (f.book.as_str(), f.seconds))
+        .collect();
+    goal(
+        "the worst journal of 65,536 bytes found at most 3 s",
+        &longest,
+        JOURNAL_GOAL,
+        " s",
     );
 }

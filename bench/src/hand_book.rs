@@ -1,0 +1,309 @@
+// The hand-written book: reads a journal from standard input and prints the
+// listing of the product's scope document, each line with one write. It reads
+// a record, looks its grants up, evaluates, counts the marks gained and lost
+// against the marks that stood, and prints, as the book does; it does not
+// test the form of a book, which nobody lends it.
+
+use crate::book::{GRANTS, JOURNAL_LIMIT, MARKS, X};
+use crate::hand::{write_and_count, Atom, Row, Table, Words};
+use std::fs::File;
+use std::io::{Read, Write};
+use std::mem::ManuallyDrop;
+use std::os::fd::FromRawFd;
+
+/// Room for the 64 rows and for the new ones of one record, at most 156.
+const ROOM: usize = 224;
+const LAST_DEPTH: u8 = 4;
+
+pub struct Book {
+    pub table: Table,
+    pub words: Words,
+    pub marks: Box<[u8; MARKS]>,
+    rows: [Row; ROOM],
+    keys: [u64; ROOM],
+    /// rows known, the new ones of the record that is being read included
+    known: usize,
+}
+
+pub enum Answer {
+    Net(i32),
+    Query(bool),
+    Refused(u8),
+}
+
+struct Reader<'a> {
+    bytes: &'a [u8],
+    at: usize,
+}
+
+/// What a grant declares: principal variables and the resource variable.
+#[derive(Clone, Copy)]
+struct Declared(u8, u8);
+
+impl Reader<'_> {
+    fn byte(&mut self) -> Result<u8, u8> {
+        let b = *self.bytes.get(self.at).ok_or(1)?;
+        self.at += 1;
+        Ok(b)
+    }
+
+    fn up_to(&mut self, last: u8) -> Result<u8, u8> {
+        let b = self.byte()?;
+        if b <= last {
+            Ok(b)
+        } else {
+            Err(3)
+        }
+    }
+
+    fn prin(&mut self, d: Declared) -> Result<u8, u8> {
+        match self.byte()? {
+            b @ 0..=0x0F => Ok(b),
+            b @ 0x80..=0x81 if b - X < d.0 => Ok(b),
+            0x80..=0x81 => Err(4),
+            _ => Err(3),
+        }
+    }
+}
+
+/// A number that two different rows hardly ever share.
+fn key(row: &Row) -> u64 {
+    let mut key = row.prins as u64 | (row.res as u64) << 2 | (row.n as u64) << 4;
+    for a in row.conds.iter().chain([&row.head]) {
+        let four = u32::from_le_bytes([a.who, a.kind | a.var << 7, a.prin, a.item]);
+        key = (key ^ four as u64).wrapping_mul(0x9E37_79B9_7F4A_7C15);
+        key ^= key >> 29;
+    }
+    key
+}
+
+impl Book {
+    pub fn new() -> Book {
+        Book {
+            table: Table::new(),
+            words: Words::new(),
+            marks: Box::new([0; MARKS]),
+            rows: [Row::default(); ROOM],
+            keys: [0; ROOM],
+            known: 0,
+        }
+    }
+
+    /// The number of a row, which may be beyond the numbers given.
+    fn number(&mut self, row: &Row) -> u8 {
+        let key = key(row);
+        for (i, k) in self.keys[..self.known].iter().enumerate() {
+            if *k == key && self.rows[i] == *row {
+                return i as u8;
+            }
+        }
+        self.rows[self.known] = *row;
+        self.keys[self.known] = key;
+        self.known += 1;
+        self.known as u8 - 1
+    }
+
+    fn grant(&mut self, r: &mut Reader, depth: u8) -> Result<u8, u8> {
+        let mut row = Row {
+            prins: r.up_to(2)?,
+            res: r.up_to(2)?,
+            n: r.up_to(4)?,
+            ..Row::default()
+        };
+        let d = Declared(row.prins, row.res);
+        for i in 0..row.n as usize {
+            let who = r.prin(d)?;
+            row.conds[i] = self.conclusion(r, d, depth)?;
+            row.conds[i].who = who;
+        }
+        row.head = self.conclusion(r, d, depth)?;
+        Ok(self.number(&row))
+    }
+
+    fn conclusion(&mut self, r: &mut Reader, d: Declared, depth: u8) -> Result<Atom, u8> {
+        let kind = r.up_to(3)?;
+        let mut a = Atom {
+            kind,
+            ..Atom::default()
+        };
+        if kind == 0 {
+            a.item = r.up_to(0x0F)?;
+            a.prin = r.prin(d)?;
+            return Ok(a);
+        }
+        a.prin = r.prin(d)?;
+        match (kind, r.byte()?) {
+            (1, 0) if depth == LAST_DEPTH => return Err(5),
+            (1, 0) => a.item = self.grant(r, depth + 1)?,
+            (1, 1) if d.1 == 1 => a.var = 1,
+            (1, 1) => return Err(4),
+            (1, _) => return Err(3),
+            (_, n @ 0..=0x1F) => a.item = n,
+            (_, 0x80) if d.1 == 2 => a.var = 1,
+            (_, 0x80) => return Err(4),
+            _ => return Err(3),
+        }
+        Ok(a)
+    }
+
+    /// One record: its answer and the bytes used.
+    pub fn call(&mut self, bytes: &[u8]) -> (Answer, usize) {
+        let mut r = Reader { bytes, at: 0 };
+        let answer = self.record(&mut r);
+        self.known = self.table.count;
+        match answer {
+            Ok(a) => (a, r.at),
+            Err(n) => (Answer::Refused(n), if n > 5 { r.at } else { 0 }),
+        }
+    }
+
+    fn record(&mut self, r: &mut Reader) -> Result<Answer, u8> {
+        let letters = [r.byte()?, r.byte()?];
+        match &letters {
+            b"TG" => {
+                let g = self.grant(r, 1)?;
+                self.give_numbers()?;
+                self.table.trust(g as usize, true);
+            }
+            b"LI" => {
+                let p = r.up_to(0x0F)?;
+                let g = self.grant(r, 1)?;
+                self.give_numbers()?;
+                self.table.issue(p as usize, g as usize, true);
+            }
+            b"ST" => {
+                let g = self.grant(r, 1)? as usize;
+                if g >= self.table.count || self.table.trusted >> g & 1 == 0 {
+                    return Err(7);
+                }
+                self.table.trust(g, false);
+            }
+            b"WD" => {
+                let p = r.up_to(0x0F)? as usize;
+                let g = self.grant(r, 1)? as usize;
+                if g >= self.table.count || self.table.issued[p] >> g & 1 == 0 {
+                    return Err(7);
+                }
+                self.table.issue(p, g, false);
+            }
+            b"QU" => {
+                let a = self.conclusion(r, Declared(0, 0), 0)?;
+                self.give_numbers()?;
+                let base = [0, 16, 80, 112][a.kind as usize];
+                let c = 144 * a.prin as usize + base + a.item as usize;
+                return Ok(Answer::Query(self.marks[c] == 1));
+            }
+            _ => return Err(2),
+        }
+        self.table.evaluate(&mut self.words);
+        let (gained, lost) = write_and_count(&self.words, &mut self.marks);
+        Ok(Answer::Net(gained as i32 - lost as i32))
+    }
+
+    /// Gives the record's new grants their numbers, if there is room.
+    fn give_numbers(&mut self) -> Result<(), u8> {
+        if self.known > GRANTS {
+            return Err(6);
+        }
+        for i in self.table.count..self.known {
+            self.table.add(&self.rows[i]);
+        }
+        Ok(())
+    }
+
+    /// Takes a journal that is accepted throughout.
+    pub fn take(&mut self, journal: &[u8]) {
+        let mut at = 0;
+        while at < journal.len() {
+            let (answer, used) = self.call(&journal[at..]);
+            assert!(
+                !matches!(answer, Answer::Refused(_)),
+                "a book's record is refused"
+            );
+            at += used;
+        }
+    }
+}
+
+/// A line in the making.
+struct Line {
+    text: [u8; 64],
+    n: usize,
+}
+
+impl Line {
+    fn add(&mut self, text: &[u8]) {
+        self.text[self.n..self.n + text.len()].copy_from_slice(text);
+        self.n += text.len();
+    }
+
+    fn number(&mut self, mut n: u32) {
+        let (mut digits, mut from) = ([0; 10], 10);
+        loop {
+            from -= 1;
+            digits[from] = b'0' + (n % 10) as u8;
+            n /= 10;
+            if n == 0 {
+                break;
+            }
+        }
+        self.add(&digits[from..]);
+    }
+
+    fn put(&mut self, out: &mut File) {
+        self.add(b"\n");
+        out.write_all(&self.text[..self.n])
+            .expect("standard output can be written");
+        self.n = 0;
+    }
+}
+
+/// The listing of the journal on standard input.
+pub fn list() {
+    // The standard streams without the buffers that std puts before them.
+    let mut input = ManuallyDrop::new(unsafe { File::from_raw_fd(0) });
+    let mut out = ManuallyDrop::new(unsafe { File::from_raw_fd(1) });
+    let mut journal = Vec::with_capacity(JOURNAL_LIMIT + 1);
+    let mut part = Read::take(&mut *input, JOURNAL_LIMIT as u64 + 1);
+    part.read_to_end(&mut journal)
+        .expect("standard input can be read");
+    let mut line = Line {
+        text: [0; 64],
+        n: 0,
+    };
+    if journal.len() > JOURNAL_LIMIT {
+        line.add(b"refused 8");
+        return line.put(&mut out);
+    }
+    let mut book = Book::new();
+    let (mut at, mut records) = (0, 0);
+    while at < journal.len() {
+        let (answer, used) = book.call(&journal[at..]);
+        records += 1;
+        line.number(records);
+        line.add(b" ");
+        match answer {
+            Answer::Net(net) => {
+                line.add(&journal[at..at + 2]);
+                line.add(if net < 0 { b" -" } else { b" +" });
+                line.number(net.unsigned_abs());
+            }
+            Answer::Query(true) => line.add(b"QU permitted"),
+            Answer::Query(false) => line.add(b"QU not permitted"),
+            Answer::Refused(n) => {
+                line.add(b"refused ");
+                line.number(n as u32);
+            }
+        }
+        line.put(&mut out);
+        if used == 0 {
+            break;
+        }
+        at += used;
+    }
+    line.add(b"end ");
+    line.number(records);
+    line.add(b" marks ");
+    line.number(book.marks.iter().map(|m| *m as u32).sum());
+    line.put(&mut out);
+}
