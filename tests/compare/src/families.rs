@@ -44,7 +44,7 @@ pub fn narrow_journals(seed: u64) -> Vec<Case> {
     (0..400).map(&mut make).collect()
 }
 
-fn middle_journals(seed: u64) -> Vec<Case> {
+pub fn middle_journals(seed: u64) -> Vec<Case> {
     const GROUP: &str = "middle-sized valid journals";
     let mut random = Random::new(seed, GROUP);
     let mut make = |i: usize| {

@@ -13,6 +13,7 @@ mod evaluators;
 mod families;
 mod generate;
 mod lengths;
+mod marks;
 mod parallel;
 mod paths;
 mod program;
@@ -41,6 +42,7 @@ fn main() -> ExitCode {
     let program = Program::new(path);
     let mut report = Report::default();
     check_program(&program, &all_cases(seed), seed, &mut report);
+    compare_marks(&program, &marks::journals(seed), &mut report);
     compare_evaluators(&small_cases(seed), seed, &mut report);
     match report.finish() {
         true => ExitCode::SUCCESS,
@@ -90,6 +92,18 @@ fn check_program(program: &Program, cases: &[Case], seed: u64, report: &mut Repo
         report.add(case, checks);
     }
     tally.print();
+}
+
+fn compare_marks(program: &Program, cases: &[Case], report: &mut Report) {
+    let results = parallel::map(cases, |case| marks::compare(program, case));
+    let (mut truths, mut sayings) = (0, 0);
+    for (case, shown) in cases.iter().zip(&results) {
+        truths += shown.truths;
+        sayings += shown.sayings;
+        report.add(case, &shown.checks);
+    }
+    let journals = cases.len();
+    println!("marks shown one by one on {journals} journals: {truths} truths, {sayings} sayings");
 }
 
 fn compare_evaluators(cases: &[Case], seed: u64, report: &mut Report) {

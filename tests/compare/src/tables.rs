@@ -67,7 +67,7 @@ fn simple_entries(count: usize) -> (Vec<Bytes>, Vec<String>) {
 }
 
 /// Records at a nearly full and a full table, with the answers written out.
-fn full_tables() -> Vec<Case> {
+pub fn full_tables() -> Vec<Case> {
     const GROUP: &str = "full tables: the 64th and 65th grant, inner ones";
     let fresh = |i: u8| plain(&run(i, i));
     let holding = |i: u8| plain(&issue(0, &fresh(i)));
