@@ -298,6 +298,27 @@ fn apart() -> Book {
     b
 }
 
+/// 59 rows whose first three conditions hold for everyone and whose last holds
+/// for one pair of principals.
+fn once() -> Book {
+    let mut b = Book::new("four conditions, 59 rows, last holds once");
+    b.trust(&short());
+    sayings().iter().for_each(|g| b.name(g));
+    for i in 0..59u8 {
+        let conds = vec![
+            (X, Prop(i % 2, Y)),
+            (Y, IssueVar(X)),
+            (X, IssueVar(Y)),
+            (Y, Prop(8, X)),
+        ];
+        let head = Prop(2 + i / 2 % 6, [X, Y, 0, 1, 2][i as usize / 12]);
+        b.issue(i % 16, &grant(2, 1, conds, head));
+    }
+    b.issue(15, &fact(Prop(8, 14)));
+    by_all(&mut b, &sayings());
+    b
+}
+
 /// The books of the table, and more chains that wake heavy rows.
 pub fn for_worst() -> Vec<Book> {
     let mut books = all();
@@ -322,6 +343,7 @@ pub fn all() -> Vec<Book> {
         chain("chain, x and grant", true, false, true, false),
         chain("chain, x y and grant", true, true, true, false),
         chain("chain, x y and grant, 16 tokens", true, true, true, true),
+        once(),
         apart(),
         prefixes(),
         deep(),
