@@ -194,54 +194,56 @@ fn chain(name: &str, x: bool, y: bool, z: bool, many: bool) -> Book {
 }
 
 /// A chain of sayings, each of which wakes every heavy row once more. The
-/// token "t said that p may issue grant i" goes down the principals, then to
-/// the next of `tellers`, then to the next of `grants`. Each of `heavy` rows
-/// reads what anyone says of rights to issue, under every pair of principals;
-/// three of its conditions hold for all and the last for none. They are
-/// numbered before the chain.
-pub fn wakes(tellers: u8, grants: usize, heavy: u8) -> Book {
-    let mut b = Book::new(&format!(
-        "wakes, {} steps, {} rows",
-        16 * tellers as usize * grants,
-        heavy
-    ));
+/// token "s said that p may issue grant i" goes up `speakers`, then one down
+/// the `prins`, then to the next of `grants`. Each of `heavy` rows reads what
+/// anyone says of rights to issue, under every pair of principals; two of its
+/// conditions hold for all and the last for one pair alone. The heavy rows
+/// are numbered first, then the chain, its last step first.
+pub fn wakes(speakers: u8, prins: u8, grants: usize, heavy: u8) -> Book {
+    let steps = speakers as usize * prins as usize * grants;
+    let mut b = Book::new(&format!("{} steps wake {} rows", steps, heavy));
     b.trust(&short());
-    let everyone = [
-        grant(1, 0, vec![], Prop(14, X)),
-        grant(1, 0, vec![], Prop(12, X)),
-    ];
-    everyone.iter().for_each(|g| b.name(g));
-    let never = Box::new(short());
+    let everyone = grant(1, 0, vec![], Prop(14, X));
+    b.name(&everyone);
     for i in 0..heavy {
         let conds = vec![
             (X, Prop(14, Y)),
             (Y, Prop(14, X)),
-            (X, Prop(12, Y)),
-            (Y, Issue(X, never.clone())),
+            (Y, IssueVar(X)),
+            (X, Prop(13, Y)),
         ];
-        b.issue(
-            i % 16,
-            &grant(2, 0, conds, Prop(i / 2 % 12, [X, Y][i as usize % 2])),
-        );
+        let head = Prop(i / 2 % 12, [X, Y][i as usize % 2]);
+        b.issue(i % 16, &grant(2, 1, conds, head));
     }
-    let below: Vec<Grant> = (0..15).map(|p| fact(Prop(15, p))).collect();
-    (0..15).for_each(|p| b.issue(p + 1, &below[p as usize]));
-    for t in (0..tellers).rev() {
-        let along = vec![(X, Prop(15, Y)), (t, IssueVar(X))];
-        b.issue(t, &grant(2, 1, along, IssueVar(Y)));
-        if t > 0 {
-            b.issue(t, &grant(0, 1, vec![(t - 1, IssueVar(0))], IssueVar(15)));
-        }
-    }
-    let over: Vec<Grant> = below.into_iter().chain(everyone.clone()).collect();
+    let over: Vec<Grant> = (0..grants as u8)
+        .map(|i| match i {
+            0 => short(),
+            1 => everyone.clone(),
+            2 => fact(Prop(13, 7)),
+            _ => step_over_speakers(i - 3),
+        })
+        .collect();
     for i in (1..grants).rev() {
         let (from, to) = (over[i - 1].clone(), over[i].clone());
-        let cond = vec![(tellers - 1, Issue(0, Box::new(from)))];
-        b.issue(0, &grant(0, 0, cond, Issue(15, Box::new(to))));
+        let cond = vec![(speakers - 1, Issue(0, Box::new(from)))];
+        b.issue(0, &grant(0, 0, cond, Issue(prins - 1, Box::new(to))));
     }
-    by_all(&mut b, &everyone);
-    b.issue(0, &fact(Issue(15, Box::new(over[0].clone()))));
+    for p in 1..prins {
+        let cond = vec![(speakers - 1, IssueVar(p))];
+        b.issue(0, &grant(0, 1, cond, IssueVar(p - 1)));
+    }
+    for s in (1..speakers).rev() {
+        b.issue(s, &step_over_speakers(s - 1));
+    }
+    by_all(&mut b, &[everyone]);
+    b.issue(7, &fact(Prop(13, 7)));
+    b.issue(0, &fact(Issue(prins - 1, Box::new(short()))));
     b
+}
+
+/// Whoever issues it says of rights to issue what s said.
+fn step_over_speakers(s: u8) -> Grant {
+    grant(1, 1, vec![(s, IssueVar(X))], IssueVar(X))
 }
 
 /// Rows that differ in their last bytes alone, with four conditions that hold
@@ -322,8 +324,8 @@ fn once() -> Book {
 /// The books of the table, and more chains that wake heavy rows.
 pub fn for_worst() -> Vec<Book> {
     let mut books = all();
-    for (tellers, grants, heavy) in [(4, 16, 18), (8, 10, 20), (8, 16, 14), (10, 14, 12)] {
-        books.push(wakes(tellers, grants, heavy));
+    for (grants, heavy) in [(10, 20), (13, 17), (17, 13)] {
+        books.push(wakes(16, 16, grants, heavy));
     }
     books
 }
@@ -347,8 +349,8 @@ pub fn all() -> Vec<Book> {
         apart(),
         prefixes(),
         deep(),
-        wakes(1, 17, 25),
-        wakes(8, 14, 16),
+        wakes(4, 4, 4, 24),
+        wakes(16, 16, 15, 15),
     ]
 }
 

@@ -8,7 +8,8 @@ use std::fs;
 
 /// A journal up to this many seconds is run whole.
 const RUN_WHOLE: f64 = 12.0;
-/// A stretch of records is lengthened until it takes this long.
+/// A stretch of records is lengthened until it takes this long, in seconds,
+/// and as long as the book takes alone.
 const STRETCH: f64 = 0.03;
 
 pub struct Found {
@@ -19,6 +20,8 @@ pub struct Found {
     pub seconds: f64,
     /// how many of them were run; the rest is worked out from these
     pub run: usize,
+    /// the same by the hand-written book
+    pub by_hand: f64,
 }
 
 /// The standing trusted grant or licence whose removal changes the most marks:
@@ -69,28 +72,46 @@ fn time(t: &Tools, b: &Book, fill: &[u8], k: usize) -> f64 {
     measure::program(&t.listing, &[], &at)
 }
 
+/// What the hand-written book takes for the whole journal.
+fn time_by_hand(t: &Tools, b: &Book, fill: &[u8], times: usize) -> f64 {
+    let at = t.dir.join("worst.journal");
+    let time = |k: usize| {
+        fs::write(&at, b.journal_with(fill, k)).expect("the work folder can be written");
+        measure::program(&t.this, &["--list"], &at)
+    };
+    let (base, run) = (time(0), times.min(100));
+    let whole = base + (time(run) - base).max(0.0) * times as f64 / run as f64;
+    if whole <= 2.0 {
+        time(times)
+    } else {
+        whole
+    }
+}
+
 /// Lengthens the stretch of records until it can be seen beside the book.
 fn estimate(t: &Tools, b: &Book, name: String, fill: &[u8], base: f64) -> Found {
     let times = b.room(fill);
     let mut run = times.min(4);
     loop {
         let took = (time(t, b, fill, run) - base).max(0.0);
-        if took >= STRETCH || run == times {
+        if took >= STRETCH.max(base) || run == times {
             return Found {
                 book: b.name.clone(),
                 fill: name,
                 times,
                 seconds: base + took * times as f64 / run as f64,
                 run,
+                by_hand: f64::NAN,
             };
         }
-        let more = (STRETCH / took.max(1e-6) * 1.5) as usize * run;
+        let more = (STRETCH.max(base) / took.max(1e-6) * 1.5) as usize * run;
         run = more.clamp(2 * run, 50 * run).min(times);
     }
 }
 
-/// For each way of filling the worst journal over all books, the worst first.
-pub fn search(t: &Tools, books: &[Book]) -> Vec<Found> {
+/// How many journals were tried, and, the worst first, those that take over
+/// `limit` seconds and the worst for each way of filling.
+pub fn search(t: &Tools, books: &[Book], limit: f64) -> (usize, Vec<Found>) {
     let mut found: Vec<(Found, &Book, Vec<u8>)> = vec![];
     for b in books {
         let base = time(t, b, &[], 0).min(time(t, b, &[], 0));
@@ -98,21 +119,23 @@ pub fn search(t: &Tools, books: &[Book]) -> Vec<Found> {
             found.push((estimate(t, b, name, &fill, base), b, fill));
         }
     }
+    let tried = found.len();
     found.sort_by(|a, b| b.0.seconds.total_cmp(&a.0.seconds));
     let mut seen: Vec<String> = vec![];
-    found.retain(|(f, _, _)| {
-        let way = f.fill.split(',').next().unwrap_or("").to_string();
-        let new = !seen.contains(&way);
-        seen.push(way);
-        new
-    });
     let mut worst = vec![];
     for (mut f, b, fill) in found {
+        let way = f.fill.split(',').next().unwrap_or("").to_string();
+        if seen.contains(&way) && f.seconds <= limit {
+            continue;
+        }
+        seen.push(way);
         if f.seconds <= RUN_WHOLE && f.run < f.times {
             f.seconds = time(t, b, &fill, f.times);
             f.run = f.times;
         }
+        f.by_hand = time_by_hand(t, b, &fill, f.times);
         worst.push(f);
     }
-    worst
+    worst.sort_by(|a, b| b.seconds.total_cmp(&a.seconds));
+    (tried, worst)
 }
