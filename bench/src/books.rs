@@ -196,31 +196,32 @@ fn chain(name: &str, x: bool, y: bool, z: bool, many: bool) -> Book {
 /// A chain of sayings, each of which wakes every heavy row once more. The
 /// token "s said that p may issue grant i" goes up `speakers`, then one down
 /// the `prins`, then to the next of `grants`. Each of `heavy` rows reads what
-/// anyone says of rights to issue, under every pair of principals; two of its
-/// conditions hold for all and the last for one pair alone. The heavy rows
-/// are numbered first, then the chain, its last step first.
-pub fn wakes(speakers: u8, prins: u8, grants: usize, heavy: u8) -> Book {
+/// anyone says of rights to issue, under every pair of principals. It has two
+/// conditions that hold for all, one on any grant, and one that holds for a
+/// single pair; or, if `named`, three that hold for all and one on a grant
+/// that the token never comes to. The heavy rows are numbered first, then the
+/// chain, its last step first.
+pub fn wakes(speakers: u8, prins: u8, grants: usize, heavy: u8, named: bool) -> Book {
     let steps = speakers as usize * prins as usize * grants;
-    let mut b = Book::new(&format!("{} steps wake {} rows", steps, heavy));
+    let how = if named { ", one grant named" } else { "" };
+    let mut b = Book::new(&format!("{} steps wake {} rows{}", steps, heavy, how));
     b.trust(&short());
     let everyone = grant(1, 0, vec![], Prop(14, X));
     b.name(&everyone);
     for i in 0..heavy {
-        let conds = vec![
-            (X, Prop(14, Y)),
-            (Y, Prop(14, X)),
-            (Y, IssueVar(X)),
-            (X, Prop(13, Y)),
-        ];
+        let mut conds = vec![(X, Prop(14, Y)), (Y, Prop(14, X))];
+        conds.extend(match named {
+            false => [(Y, IssueVar(X)), (X, Prop(13, Y))],
+            true => [(Y, Prop(14, Y)), (Y, Issue(X, Box::new(everyone.clone())))],
+        });
         let head = Prop(i / 2 % 12, [X, Y][i as usize % 2]);
         b.issue(i % 16, &grant(2, 1, conds, head));
     }
     let over: Vec<Grant> = (0..grants as u8)
         .map(|i| match i {
             0 => short(),
-            1 => everyone.clone(),
-            2 => fact(Prop(13, 7)),
-            _ => step_over_speakers(i - 3),
+            1 => fact(Prop(13, 7)),
+            _ => step_over_speakers(i - 2),
         })
         .collect();
     for i in (1..grants).rev() {
@@ -324,8 +325,11 @@ fn once() -> Book {
 /// The books of the table, and more chains that wake heavy rows.
 pub fn for_worst() -> Vec<Book> {
     let mut books = all();
-    for (grants, heavy) in [(10, 20), (13, 17), (17, 13)] {
-        books.push(wakes(16, 16, grants, heavy));
+    for (grants, heavy) in [(10, 20), (17, 13)] {
+        books.push(wakes(16, 16, grants, heavy, false));
+    }
+    for (grants, heavy) in [(15, 15), (13, 17)] {
+        books.push(wakes(16, 16, grants, heavy, true));
     }
     books
 }
@@ -349,8 +353,8 @@ pub fn all() -> Vec<Book> {
         apart(),
         prefixes(),
         deep(),
-        wakes(4, 4, 4, 24),
-        wakes(16, 16, 15, 15),
+        wakes(4, 4, 4, 24, false),
+        wakes(16, 16, 15, 15, false),
     ]
 }
 

@@ -280,10 +280,12 @@ fn print_growth(grow: &[(&str, Vec<Row>)]) -> Vec<Panel> {
             let costs: Vec<f64> = v.iter().map(|r| f(r) * 1e6).collect();
             let ratios: Vec<String> = costs
                 .iter()
-                .map(|c| format!("{:>7.2}", c / costs[0]))
+                .map(|c| format!("{:>7}", ratio(c / costs[0], f64::MAX, 2).trim()))
                 .collect();
             println!("{:<43} {}", format!("{}: {}", name, who), ratios.join(" "));
-            lines.push((who.to_string(), costs));
+            if costs.iter().all(|c| c.is_finite()) {
+                lines.push((who.to_string(), costs));
+            }
         }
         panels.push(Panel {
             title: name.to_string(),

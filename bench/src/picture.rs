@@ -26,15 +26,15 @@ fn script(panels: &[Panel], to: &Path) -> String {
     writeln!(s, "set multiplot layout 1,{}", panels.len()).unwrap();
     writeln!(
         s,
-        "set logscale y\nset xlabel 'rows'\nset ylabel 'microseconds'"
+        "set logscale y\nset xlabel 'rows'\nset ylabel 'microseconds for one evaluation'"
     )
     .unwrap();
     writeln!(
         s,
-        "set xrange [5:65]\nset yrange [1:100000]\nset xtics (10,20,40,60)"
+        "set xrange [5:65]\nset yrange [0.1:100000]\nset xtics (10,20,40,60)"
     )
     .unwrap();
-    writeln!(s, "set grid y\nset key top left").unwrap();
+    writeln!(s, "set grid y\nset key outside bottom center horizontal").unwrap();
     for (i, p) in panels.iter().enumerate() {
         for (j, (_, costs)) in p.lines.iter().enumerate() {
             writeln!(s, "$d{}_{} << EOD", i, j).unwrap();
