@@ -15,7 +15,7 @@ pub struct Panel {
 
 fn script(panels: &[Panel], to: &Path) -> String {
     let mut s = String::new();
-    let size = format!("{},360", 420 * panels.len());
+    let size = format!("{},380", 420 * panels.len());
     writeln!(
         s,
         "set terminal svg size {} font 'sans,12' background 'white'",
@@ -34,7 +34,11 @@ fn script(panels: &[Panel], to: &Path) -> String {
         "set xrange [5:65]\nset yrange [0.1:100000]\nset xtics (10,20,40,60)"
     )
     .unwrap();
-    writeln!(s, "set grid y\nset key outside bottom center horizontal").unwrap();
+    writeln!(
+        s,
+        "set grid y\nset key outside bottom center horizontal samplen 2"
+    )
+    .unwrap();
     for (i, p) in panels.iter().enumerate() {
         for (j, (_, costs)) in p.lines.iter().enumerate() {
             writeln!(s, "$d{}_{} << EOD", i, j).unwrap();
