@@ -1,0 +1,12 @@
+pub mod Computing
+pub mod Examples
+pub mod Search
+pub mod Conditions
+pub mod Steps
+pub mod Closed
+pub mod Follows
+pub mod ByBudget
+pub mod Reached
+pub mod Answered
+pub mod Executions
+pub mod Fault

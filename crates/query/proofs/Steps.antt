@@ -1,0 +1,213 @@
+-- What one question asks below is what the three rules ask; and the two searches, of what was said and of what is true.
+use mathlib.Core.Path.{_≡_, refl, sym, subst}
+use mathlib.Core.Bool.{Bool, true, false, _&&_, cond}
+use mathlib.Core.List.{List, [], _∷_, _++_}
+use mathlib.Core.Logic.{_⊎_, inl, inr, ⊎-elim}
+use Prim.Native.Nat.{ℕ, suc, _+_, _*_, _<_}
+use native.Mathlib.Omega.{arith}
+use lib.Dec.{T, eqb, eqb→eq, eqb-refl}
+use lib.ListN.{length, getD}
+use Rattle.sorts.specs.declared.Row.{Row}
+use Rattle.sorts.specs.Numbers.{conclusions}
+use Rattle.sorts.specs.Blank.{blankCond}
+use Rattle.rows.specs.Written.{Grant}
+use Rattle.rows.specs.Numbering.{place, has}
+use Rattle.rows.specs.Form.{rowOf}
+use Rattle.rows.proofs.Place.{place-at, place-is, has-lt}
+use Rattle.rules.specs.Rules.{granted, condition, issueMark, firstValues, secondValues, resourceValues}
+use Rattle.rules.specs.RowForm.{RowForm, CondForm}
+use Rattle.rules.proofs.Lists.{each-all, all-each}
+use Rattle.rules.proofs.Bounds.{first-lt, second-lt, prin-lt, number-lt, granted-lt}
+use Rattle.book.specs.Machine.{State, Licence, hasLicence}
+use Rattle.book.specs.Closed.{grantAt, rowAt, Licensed, IsTrusted}
+use Rattle.query.specs.Figures.{Said, sameSaid, some, saidUnder, conditionUnder, conditions, issuedBy, allowed}
+use Rattle.query.specs.Query.{InSaid, InTruth, sayings, Formed}
+use Rattle.query.proofs.Search.{Search, walk}
+use Rattle.query.proofs.Conditions.{every, every-out, every-in, some-where, some-of, some-parts, some-left, some-right, Given}
+use Rattle.query.proofs.Conditions.{found-out, found-in, issued-out, issued-in, allowed-out, allowed-in, has-some, some-has, licence-some, some-licence}
+
+both-out : (a b : Bool) → T (a && b) → T a × T b
+both-out true true h = (tt, tt)
+both-out true false h = absurd h
+both-out false true h = absurd h
+both-out false false h = absurd h
+
+both-in : (a b : Bool) → T a → T b → T (a && b)
+both-in true true h k = tt
+both-in true false h k = absurd k
+both-in false true h k = absurd h
+both-in false false h k = absurd h
+
+pub said-is : (d d′ : Said) → d .speaker ≡ d′ .speaker → d .what ≡ d′ .what → d ≡ d′
+said-is d d′ p e = λ i. record { speaker = p i; what = e i }
+
+said-same : (d d′ : Said) → T (sameSaid d d′) → d ≡ d′
+said-same d d′ h =
+    let w = both-out (eqb (d .speaker) (d′ .speaker)) (eqb (d .what) (d′ .what)) h in
+    said-is d d′ (eqb→eq (d .speaker) (d′ .speaker) (w .0)) (eqb→eq (d .what) (d′ .what) (w .1))
+
+said-refl : (d : Said) → T (sameSaid d d)
+said-refl d = both-in (eqb (d .speaker) (d .speaker)) (eqb (d .what) (d .what)) (eqb-refl (d .speaker)) (eqb-refl (d .what))
+
+module _ (M : State) where
+  -- what "p said e" follows from, and what e follows from, where a says what is answered yes
+  abbrev pub saidStep : (Said → Bool) → Said → Bool
+  saidStep a d = some (every a) (conditions (M .N) (issuedBy (d .speaker) (M .L)) (d .what))
+
+  abbrev pub queryStep : (Said → Bool) → (ℕ → Bool) → ℕ → Bool
+  queryStep ok a e = some (every ok) (conditions (M .N) (M .T ++ allowed M a (M .L)) e)
+
+  -- what is answered of "p said e" with nothing under way, and of e with nothing under question
+  unfoldable pub heard : Said → Bool
+  heard d = walk sameSaid saidStep (suc sayings) d []
+
+  unfoldable pub found : ℕ → Bool
+  found e = walk eqb (queryStep heard) (suc conclusions) e []
+
+module _ (M : State) (F : Formed M) where
+  -- a grant that has a number, by its number
+  at-number : (g : Grant) → has g (M .N) ≡ true → grantAt M (place g (M .N)) ≡ g
+  at-number g h = place-at g (M .N) (has-lt g (M .N) h)
+
+  number-at : (g : ℕ) → g < length (M .N) → place (grantAt M g) (M .N) ≡ g
+  number-at g l = place-is (grantAt M g) (M .N) (F .distinct) g l refl
+
+  licence-at : (l : Licence) → hasLicence l (M .L) ≡ true → Licensed M (l .issuer) (place (l .what) (M .N))
+  licence-at l h =
+      let n = F .issuedIn l h .0 in
+      (has-lt (l .what) (M .N) n, subst (λ (g : Grant). hasLicence (record { issuer = l .issuer; what = g }) (M .L) ≡ true) (sym (at-number (l .what) n)) h)
+
+  -- The condition of "p said e": a licence of p.
+  pub said-out : (a : Said → Bool) (d : Said) → T (saidStep M a d) → (g : ℕ) × Licensed M (d .speaker) g × Given (every a) (rowAt M g) (d .what)
+  said-out a d h =
+      let P : Grant → Type 0 = λ g. Given (every a) (rowOf (M .N) g) (d .what) in
+      let w = some-where (λ l. (l .issuer ≡ d .speaker) × P (l .what)) (M .L)
+      (issued-out P (d .speaker) (M .L) (found-out (every a) (M .N) (issuedBy (d .speaker) (M .L)) (d .what) h)) in
+      let l = w .0 in
+      let k = some-licence l (M .L) (w .2) in (
+        place (l .what) (M .N),
+        subst (λ (p : ℕ). Licensed M p (place (l .what) (M .N))) (w .1 .0) (licence-at l k),
+        subst P (sym (at-number (l .what) (F .issuedIn l k .0))) (w .1 .1),
+      )
+
+  pub said-in : (a : Said → Bool) (d : Said) (g : ℕ) → Licensed M (d .speaker) g → Given (every a) (rowAt M g) (d .what) → T (saidStep M a d)
+  said-in a d g l w =
+      let P : Grant → Type 0 = λ g. Given (every a) (rowOf (M .N) g) (d .what) in
+      found-in (every a) (M .N) (issuedBy (d .speaker) (M .L)) (d .what)
+      (issued-in P (d .speaker) (M .L)
+      (some-of (λ m. (m .issuer ≡ d .speaker) × P (m .what)) (M .L) (record { issuer = d .speaker; what = grantAt M g }) (refl, w)
+      (licence-some (record { issuer = d .speaker; what = grantAt M g }) (M .L) (l .1))))
+
+  -- The condition of e: a trusted grant, or a licence of p whose right to issue it was answered yes.
+  pub query-out : (ok : Said → Bool) (a : ℕ → Bool) (e : ℕ) → T (queryStep M ok a e) →
+      ((g : ℕ) × IsTrusted M g × Given (every ok) (rowAt M g) e) ⊎
+      ((g p : ℕ) × (p < 16) × Licensed M p g × T (a (issueMark p g)) × Given (every ok) (rowAt M g) e)
+  query-out ok a e h =
+      let P : Grant → Type 0 = λ g. Given (every ok) (rowOf (M .N) g) e in
+      ⊎-elim
+      (λ u.
+      let w = some-where P (M .T) u in
+      let k = some-has (w .0) (M .T) (w .2) in
+      let n = F .trustedIn (w .0) k in
+      let i = sym (at-number (w .0) n) in
+      inl (place (w .0) (M .N), (has-lt (w .0) (M .N) n, subst (λ (g : Grant). has g (M .T) ≡ true) i k), subst P i (w .1)))
+      (λ u.
+      let w = some-where (λ l. T (a (issueMark (l .issuer) (place (l .what) (M .N)))) × P (l .what)) (M .L) (allowed-out P M a (M .L) u) in
+      let l = w .0 in
+      let k = some-licence l (M .L) (w .2) in
+      let n = F .issuedIn l k in
+      inr (place (l .what) (M .N), l .issuer, n .1, licence-at l k, w .1 .0, subst P (sym (at-number (l .what) (n .0))) (w .1 .1)))
+      (some-parts P (M .T) (allowed M a (M .L)) (found-out (every ok) (M .N) (M .T ++ allowed M a (M .L)) e h))
+
+  pub trust-in : (ok : Said → Bool) (a : ℕ → Bool) (e g : ℕ) → IsTrusted M g → Given (every ok) (rowAt M g) e → T (queryStep M ok a e)
+  trust-in ok a e g t w =
+      let P : Grant → Type 0 = λ g. Given (every ok) (rowOf (M .N) g) e in
+      found-in (every ok) (M .N) (M .T ++ allowed M a (M .L)) e
+      (some-left P (M .T) (allowed M a (M .L)) (some-of P (M .T) (grantAt M g) w (has-some (grantAt M g) (M .T) (t .1))))
+
+  pub authority-in : (ok : Said → Bool) (a : ℕ → Bool) (e g p : ℕ) → Licensed M p g → T (a (issueMark p g)) → Given (every ok) (rowAt M g) e → T (queryStep M ok a e)
+  authority-in ok a e g p l t w =
+      let P : Grant → Type 0 = λ g. Given (every ok) (rowOf (M .N) g) e in
+      found-in (every ok) (M .N) (M .T ++ allowed M a (M .L)) e
+      (some-right P (M .T) (allowed M a (M .L)) (allowed-in P M a (M .L)
+      (some-of (λ m. T (a (issueMark (m .issuer) (place (m .what) (M .N)))) × P (m .what)) (M .L) (record { issuer = p; what = grantAt M g })
+      (subst (λ (k : ℕ). T (a (issueMark p k))) (sym (number-at g (l .0))) t, w) (licence-some (record { issuer = p; what = grantAt M g }) (M .L) (l .1)))))
+
+  -- a row's conditions and conclusion are in range
+
+  module _ (r : Row) (f : RowForm r) (x y z : ℕ) (hx : x < firstValues (r .prins)) (hy : y < secondValues (r .prins)) (hz : z < resourceValues (r .res)) where
+    pub granted-in : granted r x y z < conclusions
+    granted-in = granted-lt r x y z f (omega (arith, first-lt (r .prins))) (omega (arith, second-lt (r .prins))) hz
+
+    pub said-under : (i : ℕ) → i < r .count → InSaid (saidUnder (getD (r .conds) i blankCond) x y z)
+    said-under i l =
+        let few = f .few in
+        let c : CondForm (r .res) (getD (r .conds) i blankCond) = f .conds i (omega arith) in
+        let lx : x < 16 = omega (arith, first-lt (r .prins)) in
+        let ly : y < 16 = omega (arith, second-lt (r .prins)) in
+        (prin-lt (getD (r .conds) i blankCond .who) x y (c .who) lx ly, number-lt (r .res) (getD (r .conds) i blankCond .what) x y z (c .what) lx ly hz)
+
+    -- every condition, by its place
+    pub every-at : (a : Said → Bool) → T (every a (conditionUnder r x y z)) → (i : ℕ) → i < r .count → T (a (saidUnder (getD (r .conds) i blankCond) x y z))
+    unfolding conditionUnder
+    every-at a h i l = all-each (λ d. T (a d)) (r .count) (λ i. saidUnder (getD (r .conds) i blankCond) x y z ∷ []) (every-out a (conditionUnder r x y z) h) i l .0
+
+    pub at-every : (a : Said → Bool) → ((i : ℕ) → i < r .count → T (a (saidUnder (getD (r .conds) i blankCond) x y z))) → T (every a (conditionUnder r x y z))
+    unfolding conditionUnder
+    at-every a h = every-in a (conditionUnder r x y z) (each-all (λ d. T (a d)) (r .count) (λ i. saidUnder (getD (r .conds) i blankCond) x y z ∷ []) (λ i l. (h i l, tt)))
+
+  -- The two searches.
+
+  given-mono : (a b : Said → Bool) → ((d : Said) → InSaid d → T (a d) → T (b d)) → (g e : ℕ) → g < length (M .N) → Given (every a) (rowAt M g) e → Given (every b) (rowAt M g) e
+  given-mono a b f g e l w =
+      let row = rowAt M g in
+      let form = F .rows g l in
+      record {
+        x = w .x;
+        y = w .y;
+        z = w .z;
+        first = w .first;
+        second = w .second;
+        resource = w .resource;
+        gives = w .gives;
+        holds = at-every row form (w .x) (w .y) (w .z) (w .first) (w .second) (w .resource) b (λ i k.
+            f (saidUnder (getD (row .conds) i blankCond) (w .x) (w .y) (w .z)) (said-under row form (w .x) (w .y) (w .z) (w .first) (w .second) (w .resource) i k)
+            (every-at row form (w .x) (w .y) (w .z) (w .first) (w .second) (w .resource) a (w .holds) i k));
+      }
+
+  pub said-mono : (a b : Said → Bool) → ((d : Said) → InSaid d → T (a d) → T (b d)) → (d : Said) → InSaid d → T (saidStep M a d) → T (saidStep M b d)
+  said-mono a b f d r h = let o = said-out a d h in said-in b d (o .0) (o .1) (given-mono a b f (o .0) (d .what) (o .1 .0) (o .2))
+
+  pub query-mono : (ok ok′ : Said → Bool) → ((d : Said) → InSaid d → T (ok d) → T (ok′ d)) → (a b : ℕ → Bool) → ((e : ℕ) → InTruth e → T (a e) → T (b e)) →
+      (e : ℕ) → InTruth e → T (queryStep M ok a e) → T (queryStep M ok′ b e)
+  query-mono ok ok′ k a b f e r h =
+      ⊎-elim
+      (λ o. trust-in ok′ b e (o .0) (o .1) (given-mono ok ok′ k (o .0) e (o .1 .0) (o .2)))
+      (λ o.
+      let n = F .few in
+      let l = o .3 .0 in
+      let p = o .2 in
+      authority-in ok′ b e (o .0) (o .1) (o .3) (f (issueMark (o .1) (o .0)) (omega arith) (o .4)) (given-mono ok ok′ k (o .0) e l (o .5)))
+      (query-out ok a e h)
+
+  -- the number of "p said e" among the sayings
+  abbrev pub sayingNumber : Said → ℕ
+  sayingNumber d = 2304 * d .speaker + d .what
+
+  pub said-search : Search sameSaid InSaid sayingNumber sayings (saidStep M)
+  said-search = record {
+    same = said-same;
+    differ = λ d d′ f e. f (subst (λ (u : Said). T (sameSaid d u)) e (said-refl d));
+    num-lt = λ d r. omega arith;
+    num-is = λ d d′ r r′ e. said-is d d′ (omega arith) (omega arith);
+    mono = said-mono;
+  }
+
+  pub query-search : (ok : Said → Bool) → Search eqb InTruth (λ e. e) conclusions (queryStep M ok)
+  query-search ok = record {
+    same = eqb→eq;
+    differ = λ e e′ f q. f (subst (λ (u : ℕ). T (eqb e u)) q (eqb-refl e));
+    num-lt = λ e r. r;
+    num-is = λ e e′ r r′ q. q;
+    mono = query-mono ok ok (λ d r h. h);
+  }

@@ -1,0 +1,89 @@
+-- Document 000, section 3.3, the corrected query: figures 4 to 6, Query2(e, L, R, E), Auth2(e, L, R, E) and Holds2(d, L, S), over
+-- the plain machine. L is its licences, R its trusted grants T, and a grant's place in N is its number. Each figure stands here
+-- once. Where a figure calls a figure the call is a parameter: `query` is Query2(.., L, R, ..), and `said` is Holds2(.., L, ..) of
+-- one Said. What functions follow the figures is said in Query.
+use Prim.Native.Nat.{ℕ}
+use mathlib.Core.Bool.{Bool, true, false, _&&_, cond}
+use mathlib.Core.List.{List, [], _∷_, _++_}
+use lib.Dec.{eqb}
+use lib.ListN.{getD}
+use Rattle.sorts.specs.declared.Cond.{Cond}
+use Rattle.sorts.specs.declared.Row.{Row}
+use Rattle.sorts.specs.Numbers.{numberOf}
+use Rattle.sorts.specs.Blank.{blankCond}
+use Rattle.rows.specs.Written.{Grant}
+use Rattle.rows.specs.Numbering.{place}
+use Rattle.rows.specs.Form.{rowOf}
+use Rattle.rules.specs.Rules.{prinUnder, conclUnder, granted, issueMark, firstValues, secondValues, resourceValues}
+use Rattle.rules.specs.Standing.{each}
+use Rattle.book.specs.Machine.{State, Licence}
+
+-- A closed conclusion e is its number. "Said(p, e)":
+pub record Said : Type 0 where
+  pub speaker : ℕ
+  pub what : ℕ
+
+abbrev pub sameSaid : Said → Said → Bool
+sameSaid d d′ = eqb (d .speaker) (d′ .speaker) && eqb (d .what) (d′ .what)
+
+-- "A condition has the form d₁ ∧ .. ∧ dₙ, where each dᵢ is either true or Said(p, e)": its Saids. The empty list is true.
+abbrev pub Condition : Type 0
+Condition = List Said
+
+-- The test holds of some of a list. (What a `let` binds is worked out only where it is read.)
+abbrev pub some : {A : Type 0} → (A → Bool) → List A → Bool
+some f [] = false
+some f (a ∷ l) = let later = some f l in cond (f a) true later
+
+-- d_g σ, for a grant's row and a closed substitution σ, which gives the variables the values x, y and z.
+abbrev pub saidUnder : Cond → ℕ → ℕ → ℕ → Said
+saidUnder c x y z = record { speaker = prinUnder (c .who) x y; what = numberOf (conclUnder (c .what) x y z) }
+
+unfoldable pub conditionUnder : Row → ℕ → ℕ → ℕ → Condition
+conditionUnder r x y z = each (r .count) (λ i. saidUnder (getD (r .conds) i blankCond) x y z ∷ [])
+
+-- "{d | d_g σ = d and e_g σ = e, for some closed substitution σ}", for a grant's row.
+unfoldable pub conditionsOf : Row → ℕ → List Condition
+conditionsOf r e =
+    each (firstValues (r .prins)) (λ x.
+    each (secondValues (r .prins)) (λ y.
+    each (resourceValues (r .res)) (λ z. cond (eqb (granted r x y z) e) (conditionUnder r x y z ∷ []) [])))
+
+-- "D := ∅; for each grant ∀x₁ .. ∀xₙ (d_g → e_g) ∈ R′: D := D ∪ {d | d_g σ = d and e_g σ = e, for some closed substitution σ}". In
+-- figure 6, with R_p for R′, the same set is "{d′ | for some grant .. ∈ R_p and closed substitution σ, d_g σ = d′ and e_g σ = e}".
+unfoldable pub conditions : List Grant → List Grant → ℕ → List Condition
+conditions N [] e = []
+conditions N (g ∷ R) e = conditionsOf (rowOf N g) e ++ conditions N R e
+
+-- "R_p = {g | for some principal p′, (p′, g) ∈ L and p′ ∈ p}", where p is one principal: the grants that p issued.
+unfoldable pub issuedBy : ℕ → List Licence → List Grant
+issuedBy p [] = []
+issuedBy p (l ∷ L) = cond (eqb (l .issuer) p) (l .what ∷ issuedBy p L) (issuedBy p L)
+
+-- Figure 6: "if d = true then return true; if d = d₁ ∧ .. ∧ dₙ then return ⋀ Holds2(dᵢ, L, S)". Every part is asked with the same S.
+abbrev pub holds2 : (Said → List Said → Bool) → Condition → List Said → Bool
+holds2 said [] S = true
+holds2 said (d ∷ ds) S = let later = holds2 said ds S in cond (said d S) later false
+
+module _ (M : State) where
+  -- Figure 6, for one Said: "if d = Said(p, e) and d ∈ S then return false; if d = Said(p, e) and d ∉ S then S′ = S ∪ {d}", R_p, D, "if
+  -- Holds2(d′, L, S′) = true for a condition d′ ∈ D then return true else return false".
+  unfoldable pub said2 : (Said → List Said → Bool) → Said → List Said → Bool
+  said2 said d S =
+      let found = some (λ d′. holds2 said d′ (d ∷ S)) (conditions (M .N) (issuedBy (d .speaker) (M .L)) (d .what)) in
+      cond (some (sameSaid d) S) false found
+
+  -- Figure 5: "for each license (p, g) ∈ L: if Query2(Perm(p, issue, g), L, R, E′) = true then R′ := R′ ∪ {g}". `query′` is Query2 at E′.
+  unfoldable pub allowed : (ℕ → Bool) → List Licence → List Grant
+  allowed query′ [] = []
+  allowed query′ (l ∷ L) = cond (query′ (issueMark (l .issuer) (place (l .what) (M .N)))) (l .what ∷ allowed query′ L) (allowed query′ L)
+
+  -- Figure 5: "if e ∈ E then return ∅ else E′ := E ∪ {e}; R′ := R", the allowed grants added to R′, "return D".
+  unfoldable pub auth2 : (ℕ → List ℕ → Bool) → ℕ → List ℕ → List Condition
+  auth2 query e E =
+      let D = conditions (M .N) (M .T ++ allowed (λ e′. query e′ (e ∷ E)) (M .L)) e in
+      cond (some (eqb e) E) [] D
+
+  -- Figure 4: "D := Auth2(e, L, R, E); if Holds2(d, L, ∅) = true for a condition d ∈ D then return true else return false".
+  unfoldable pub query2 : (ℕ → List ℕ → Bool) → (Said → List Said → Bool) → ℕ → List ℕ → Bool
+  query2 query said e E = some (λ d. holds2 said d []) (auth2 query e E)
