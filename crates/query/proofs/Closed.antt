@@ -22,7 +22,7 @@ use Rattle.book.specs.Closed.{rowAt, ClosedSet}
 use Rattle.book.specs.Demands.{Stands, Lacking}
 use Rattle.query.specs.Figures.{Said, sameSaid, Condition, saidUnder}
 use Rattle.query.specs.Query.{InSaid, InTruth, sayings, Formed}
-use Rattle.query.specs.Answers.{Has, HoldsIn, FailsIn}
+use Rattle.query.specs.Answers.{Has, StandsAll, LackingOne}
 use Rattle.query.proofs.Search.{walk, search-sound, search-closed}
 use Rattle.query.proofs.Conditions.{every, every-out, every-in, Given, T-true}
 use Rattle.query.proofs.Steps.{saidStep, queryStep, heard, found, said-out, said-in, query-out, trust-in, authority-in, granted-in, said-under, every-at, at-every, said-is, said-search, query-search}
@@ -211,7 +211,7 @@ module _ (M : State) (F : Formed M) where
       (λ n. (answerMarks allMarks, marks-closed, λ h. n (subst T (answer-truth e r) (marks-in allMarks e h))))
       (λ h k. k .2 (h (In (k .0)) (k .1)))
 
-  pub condition-answers : (d : Condition) → All InSaid d → ((every (heard M) d ≡ true) ↔ HoldsIn M d) × ((every (heard M) d ≡ false) ↔ FailsIn M d)
+  pub condition-answers : (d : Condition) → All InSaid d → ((every (heard M) d ≡ true) ↔ StandsAll M d) × ((every (heard M) d ≡ false) ↔ LackingOne M d)
   condition-answers d r =
       decided (every (heard M) d)
       (λ h S c. parts-hold S c d r h)

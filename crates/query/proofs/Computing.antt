@@ -14,7 +14,7 @@ use Rattle.query.specs.Figures.{conditionUnder, conditionsOf, conditions
 use Rattle.query.specs.Query.{saidWithin, queryWithin}
 use Rattle.query.specs.ByBudget.{saidByBudget}
 use Rattle.query.specs.Executions.{saidTold, allowedTold, authTold, queryTold, impliedTold}
-use Rattle.query.specs.Examples.{recordsOf, circle, circle-trusted, other-speaker, two-ways, two-ways-turned, examples}
+use Rattle.query.specs.Examples.{recordsOf, verdicts, tested, lineSays, circle, circle-trusted, other-speaker, two-ways, two-ways-turned, examples}
 
 -- the examples
 unfoldable pub listed : Unit {0}
@@ -23,10 +23,20 @@ listed = tt
 
 -- the plain machine, fed an example's records
 unfoldable pub fed : Unit {0}
-unfolding recordsOf writtenRecord byteAt upto principal pack form head readProperty readPacked readIssue readConcl readConds readWith readGrant readEntry readLicence readQuery readContent readRecord written writtenConds writtenConcl writtenRight sameBytes same place has add number numberConds numberConcl numberRight hasLicence addLicence withoutLicence act step runs
+unfolding recordsOf verdicts tested lineSays writtenRecord byteAt upto principal pack form head readProperty readPacked readIssue readConcl readConds readWith readGrant readEntry readLicence readQuery readContent readRecord written writtenConds writtenConcl writtenRight sameBytes same place has add number numberConds numberConcl numberRight hasLicence addLicence withoutLicence act step runs
 fed = tt
 
--- the figures, and their executions
-unfoldable pub asked : Unit {0}
-unfolding condsOf rowOf resUnder conclUnder granted conditionUnder conditionsOf conditions issuedBy said2 allowed auth2 query2 saidWithin queryWithin saidByBudget saidTold allowedTold authTold queryTold impliedTold
-asked = tt
+-- the figures
+unfoldable pub figures : Unit {0}
+unfolding condsOf rowOf resUnder conclUnder granted conditionUnder conditionsOf conditions issuedBy said2 allowed auth2 query2
+figures = tt
+
+-- the query on its budget, and by budget alone
+unfoldable pub within : Unit {0}
+unfolding saidWithin queryWithin saidByBudget
+within = tt
+
+-- executions
+unfoldable pub told : Unit {0}
+unfolding saidTold allowedTold authTold queryTold impliedTold
+told = tt

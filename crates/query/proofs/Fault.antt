@@ -4,9 +4,9 @@ use mathlib.Core.Bool.{true}
 use lib.Dec.{lit<}
 use Rattle.worked.specs.Worked.{P9}
 use Rattle.query.specs.Examples.{recordsOf, trusted2, Fault}
-use Rattle.query.proofs.Computing.{listed, fed, asked}
-use Rattle.query.proofs.Answered.{corrected-reached}
+use Rattle.query.proofs.Computing.{listed, fed, figures, within, told}
+use Rattle.query.proofs.Book.{corrected-reached}
 
 pub fault : Fault
-unfolding listed fed asked
-fault = record { denied = refl; stands = corrected-reached (recordsOf P9) true .queried (trusted2 P9) (lit< tt) .0 .0 refl }
+unfolding listed fed figures within told
+fault = record { denied = refl; deniedTurned = refl; stands = corrected-reached (recordsOf P9) true .queried (trusted2 P9) (lit< tt) .0 .0 refl }

@@ -12,8 +12,8 @@ use Rattle.book.specs.Machine.{State}
 use Rattle.book.specs.Demands.{Stands, Lacking}
 use Rattle.query.specs.Figures.{Said, Condition, sameSaid, some, conditions, issuedBy, allowed, holds2, said2, auth2, query2}
 use Rattle.query.specs.Query.{InTruth, InSaid, Single, sayings, Formed, Follows, saidWithin, queryWithin, fullQuery, fullSaid}
-use Rattle.query.specs.Answers.{Has, HoldsIn, FailsIn, AsClosedSets, Ends}
-use Rattle.query.proofs.Search.{Search, Solves, walk, same-answer, ends, solved}
+use Rattle.query.specs.Answers.{Has, StandsAll, LackingOne, AsClosedSets, Ends}
+use Rattle.query.proofs.Search.{walk, same-answer, ends, solved}
 use Rattle.query.proofs.Conditions.{every, some-same, every-out, holds-every}
 use Rattle.query.proofs.Steps.{saidStep, queryStep, heard, found, query-mono, said-search, query-search}
 use Rattle.query.proofs.Closed.{said-sound, query-sound, truth-answers, condition-answers}
@@ -74,7 +74,7 @@ module _ (M : State) (F : Formed M) where
     unfolding found
     follows-answers = record {
       queried = λ e r. subst (λ (t : Bool). ((t ≡ true) ↔ Stands M e) × ((t ≡ false) ↔ Lacking M e)) (sym (query-search-only e [] r tt tt)) (truth-answers M F e r);
-      held = λ d r. subst (λ (t : Bool). ((t ≡ true) ↔ HoldsIn M d) × ((t ≡ false) ↔ FailsIn M d)) (sym (holds-heard d r)) (condition-answers M F d r);
+      held = λ d r. subst (λ (t : Bool). ((t ≡ true) ↔ StandsAll M d) × ((t ≡ false) ↔ LackingOne M d)) (sym (holds-heard d r)) (condition-answers M F d r);
       querySound = λ e E r a s q S c. query-sound M F S c (suc conclusions) e E r (subst T (query-search-only e E r a s) (subst T (sym q) tt));
       heldSound = λ d S r a s q P c.
           parts P S (λ dᵢ rᵢ h. said-sound M F P c (suc sayings) dᵢ S rᵢ (subst T (said-search-only dᵢ S rᵢ a s) h)) d r

@@ -1,5 +1,5 @@
 pub mod Computing
-pub mod Examples
+pub mod Answers
 pub mod Search
 pub mod Conditions
 pub mod Steps
@@ -7,6 +7,6 @@ pub mod Closed
 pub mod Follows
 pub mod ByBudget
 pub mod Reached
-pub mod Answered
+pub mod Book
 pub mod Executions
 pub mod Fault

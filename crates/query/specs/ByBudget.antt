@@ -2,11 +2,10 @@
 use Prim.Native.Nat.{ℕ, zero, suc}
 use mathlib.Core.Path.{_≡_}
 use mathlib.Core.Bool.{Bool, false}
-use mathlib.Core.List.{List, [], _++_}
+use mathlib.Core.List.{[], _++_}
 use Rattle.sorts.specs.Numbers.{conclusions}
-use Rattle.rules.specs.Standing.{All}
 use Rattle.book.specs.Machine.{State}
-use Rattle.query.specs.Figures.{Said, Condition, some, holds2, conditions, issuedBy, allowed}
+use Rattle.query.specs.Figures.{Said, some, holds2, conditions, issuedBy, allowed}
 use Rattle.query.specs.Query.{InTruth, InSaid, sayings, saidWithin, queryWithin, implied}
 
 module _ (M : State) (spent : Bool) where

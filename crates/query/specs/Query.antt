@@ -34,21 +34,22 @@ InSaid d = (d .speaker < 16) × (d .what < conclusions)
 abbrev pub sayings : ℕ
 sayings = 16 * conclusions
 
--- Nothing stands twice.
+-- Nothing stands on the list twice.
 abbrev pub Single : {A : Type 0} → List A → Type 0
 Single [] = Unit {0}
 Single (a ∷ l) = (Some (λ b. a ≡ b) l → ⊥) × Single l
 
--- Functions Query2 and, of one Said, Holds2 that follow the figures, on every list that can come up on a branch.
+-- Functions Query2 and, of one Said, Holds2 follow the figures: on every list that can come up on a branch they give what the figure
+-- gives where its calls are these functions themselves.
 pub record Follows (M : State) (query : ℕ → List ℕ → Bool) (said : Said → List Said → Bool) : Type 0 where
   -- figures 4 and 5
   pub queried : (e : ℕ) (E : List ℕ) → InTruth e → All InTruth E → Single E → query e E ≡ query2 M query said e E
   -- figure 6
   pub held : (d : Said) (S : List Said) → InSaid d → All InSaid S → Single S → said d S ≡ said2 M said d S
 
--- The figures' recursion, on a budget: how many questions a branch may ask one below the other. A question that the budget does not
--- reach is answered `spent`. That no question is, so that `spent` makes no difference, is a theorem: a branch's list can only be
--- lengthened by what is not on it, so no more often than there are statements.
+-- The figures' recursion, on a budget: how many questions a branch may ask one below the other. A question out of budget is answered
+-- `spent`, and that this makes no difference is a theorem: a branch's list can only be lengthened by what is not on it, and so no
+-- more often than there are statements.
 module _ (M : State) (spent : Bool) where
   unfoldable pub saidWithin : ℕ → Said → List Said → Bool
   saidWithin zero d S = spent

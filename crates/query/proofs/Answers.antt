@@ -1,0 +1,48 @@
+-- The worked examples.
+use mathlib.Core.Path.{_≡_, refl, ap, _∙_}
+use mathlib.Core.Bool.{Bool, true, false, cond}
+use Prim.Native.Nat.{ℕ, zero, suc}
+use mathlib.Core.List.{[], _∷_}
+use Rattle.worked.specs.Worked.{P7}
+use Rattle.query.specs.Query.{sayings, saidWithin, queryWithin, implied}
+use Rattle.query.specs.ByBudget.{saidByBudget}
+use Rattle.query.specs.Examples.{machineOf, Answered, examples, OrderTells, circle, circleSaid, ownRight, CircleEnds}
+use Rattle.query.proofs.Computing.{listed, fed, figures, within, told}
+
+-- one condition, of one part
+one : (t : Bool) → cond (cond t true false) true false ≡ t
+one true = refl
+one false = refl
+
+pub circle-ends : CircleEnds
+unfolding listed fed figures within
+circle-ends = record { byList = byList; rightByList = rightByList; byBudget = byBudget }
+  where
+    byList : (spent : Bool) (k : ℕ) → saidWithin (machineOf circle) spent (suc (suc k)) circleSaid [] ≡ false
+    byList spent zero = refl
+    byList spent (suc k) = refl
+
+    rightByList : (spent : Bool) → queryWithin (machineOf P7) spent 2 ownRight [] ≡ false
+    rightByList true = refl
+    rightByList false = refl
+
+    byBudget : (spent : Bool) (k : ℕ) → saidByBudget (machineOf circle) spent k circleSaid ≡ spent
+    byBudget spent zero = refl
+    byBudget spent (suc k) = one (saidByBudget (machineOf circle) spent k circleSaid) ∙ byBudget spent k
+
+-- The corrected query answers each example as its line says.
+pub answered : (spent : Bool) → Answered (λ M. implied M spent) examples
+unfolding listed fed figures within
+answered spent = record { accepted = refl; answers = refl }
+
+pub order-tells : OrderTells
+unfolding listed fed figures told
+order-tells = record { oneList = refl; oneListTurned = refl; oneListWritten = refl; ownList = refl; ownListTurned = refl; ownListWritten = refl }
+
+-- Document 000's example 3.4: Smart(Bob) is not implied.
+pub circle-answered : (spent : Bool) → Answered (λ M. implied M spent) (circle ∷ [])
+unfolding listed fed figures queryWithin
+circle-answered spent = record {
+  accepted = refl;
+  answers = ap (λ t. (t ∷ []) ∷ []) (one (saidWithin (machineOf circle) spent (suc sayings) circleSaid []) ∙ circle-ends .byList spent 36863);
+}
