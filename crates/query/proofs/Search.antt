@@ -145,7 +145,7 @@ module _ {X : Type 0} {eq : X → X → Bool} {R : X → Type 0} {num : X → �
 
   -- Completeness: what is had in k rounds is answered yes, with a budget of at least k, on every list of what is not had in k rounds.
   -- Where it is not had in fewer, its own needs are had in fewer, and it may stand on their list.
-  pub of-rounds : (k f : ℕ) (x : X) (E : List X) → R x → k ≤ f → ((y : X) → R y → Some (λ e. y ≡ e) E → T (rounds F k y) → ⊥) → T (rounds F k x) → T (q f x E)
+  of-rounds : (k f : ℕ) (x : X) (E : List X) → R x → k ≤ f → ((y : X) → R y → Some (λ e. y ≡ e) E → T (rounds F k y) → ⊥) → T (rounds F k x) → T (q f x E)
   of-rounds zero f x E r l d h = absurd h
   of-rounds (suc k) zero x E r l d h = absurd (not-suc-le-zero l)
   of-rounds (suc k) (suc f) x E r l d h = go (rounds F k x) refl (of-rounds k (suc f) x E r (omega arith)) (of-rounds k f)
@@ -195,7 +195,7 @@ module _ {X : Type 0} {eq : X → X → Bool} {R : X → Type 0} {num : X → �
       answered (suc k) x E (u .0) (s .mono (λ y. q k y (x ∷ E)) (λ y. q (suc k) y (x ∷ E)) (λ y ry. up-one k y (x ∷ E) ry) x r (u .1))
 
   -- The budget is never used up: with more statements on the list and in the budget than there are, one more makes no difference.
-  pub steady : (k : ℕ) (x : X) (E : List X) → R x → All R E → Single E → N < k + length E → T (q (suc k) x E) → T (q k x E)
+  steady : (k : ℕ) (x : X) (E : List X) → R x → All R E → Single E → N < k + length E → T (q (suc k) x E) → T (q k x E)
   steady zero x E r a d l h = absurd (over E a d (omega arith))
   steady (suc k) x E r a d l h =
       let u = asked (suc k) x E h in
@@ -225,7 +225,7 @@ module _ {X : Type 0} {eq : X → X → Bool} {R : X → Type 0} {num : X → �
   Solves p = (x : X) (E : List X) → R x → All R E → Single E → p x E ≡ cond (some (eq x) E) false (F (λ y. p y (x ∷ E)) x)
 
   -- The search on a budget above the number of statements satisfies it.
-  pub search-solves : Solves (q (suc N))
+  search-solves : Solves (q (suc N))
   search-solves x E r a d =
       same-below x E r (λ y. q N y (x ∷ E)) (λ y. q (suc N) y (x ∷ E)) (λ u y ry.
       same-answer (q N y (x ∷ E)) (q (suc N) y (x ∷ E)) (up-one N y (x ∷ E) ry) (steady N y (x ∷ E) ry (r, a) (u, d) (omega arith)))

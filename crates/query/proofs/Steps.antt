@@ -175,7 +175,7 @@ module _ (M : State) (F : Formed M) where
             (every-at row form (w .x) (w .y) (w .z) (w .first) (w .second) (w .resource) a (w .holds) i k));
       }
 
-  pub said-mono : (a b : Said → Bool) → ((d : Said) → InSaid d → T (a d) → T (b d)) → (d : Said) → InSaid d → T (saidStep M a d) → T (saidStep M b d)
+  said-mono : (a b : Said → Bool) → ((d : Said) → InSaid d → T (a d) → T (b d)) → (d : Said) → InSaid d → T (saidStep M a d) → T (saidStep M b d)
   said-mono a b f d r h = let o = said-out a d h in said-in b d (o .0) (o .1) (given-mono a b f (o .0) (d .what) (o .1 .0) (o .2))
 
   pub query-mono : (ok ok′ : Said → Bool) → ((d : Said) → InSaid d → T (ok d) → T (ok′ d)) → (a b : ℕ → Bool) → ((e : ℕ) → InTruth e → T (a e) → T (b e)) →

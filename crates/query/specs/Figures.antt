@@ -66,22 +66,26 @@ holds2 said [] S = true
 holds2 said (d ∷ ds) S = let later = holds2 said ds S in cond (said d S) later false
 
 module _ (M : State) where
-  -- Figure 6, for one Said: "if d = Said(p, e) and d ∈ S then return false; if d = Said(p, e) and d ∉ S then S′ = S ∪ {d}", R_p, D, "if
-  -- Holds2(d′, L, S′) = true for a condition d′ ∈ D then return true else return false".
+  -- Figure 6, for one Said: "if d = Said(p, e) and d ∈ S then return false; if d = Said(p, e) and d ∉ S then S′ = S ∪ {d}; R_p = ..;
+  -- D := ..; if Holds2(d′, L, S′) = true for a condition d′ ∈ D then return true else return false".
   unfoldable pub said2 : (Said → List Said → Bool) → Said → List Said → Bool
   said2 said d S =
-      let found = some (λ d′. holds2 said d′ (d ∷ S)) (conditions (M .N) (issuedBy (d .speaker) (M .L)) (d .what)) in
-      cond (some (sameSaid d) S) false found
+      let S′ = d ∷ S in
+      let D = conditions (M .N) (issuedBy (d .speaker) (M .L)) (d .what) in
+      let held = some (λ d′. holds2 said d′ S′) D in
+      cond (some (sameSaid d) S) false held
 
   -- Figure 5: "for each license (p, g) ∈ L: if Query2(Perm(p, issue, g), L, R, E′) = true then R′ := R′ ∪ {g}". `query′` is Query2 at E′.
   unfoldable pub allowed : (ℕ → Bool) → List Licence → List Grant
   allowed query′ [] = []
   allowed query′ (l ∷ L) = cond (query′ (issueMark (l .issuer) (place (l .what) (M .N)))) (l .what ∷ allowed query′ L) (allowed query′ L)
 
-  -- Figure 5: "if e ∈ E then return ∅ else E′ := E ∪ {e}; R′ := R", the allowed grants added to R′, "return D".
+  -- Figure 5: "if e ∈ E then return ∅ else E′ := E ∪ {e}; R′ := R; for each license ..; D := ∅; for each grant ..; return D".
   unfoldable pub auth2 : (ℕ → List ℕ → Bool) → ℕ → List ℕ → List Condition
   auth2 query e E =
-      let D = conditions (M .N) (M .T ++ allowed (λ e′. query e′ (e ∷ E)) (M .L)) e in
+      let E′ = e ∷ E in
+      let R′ = M .T ++ allowed (λ e′. query e′ E′) (M .L) in
+      let D = conditions (M .N) R′ e in
       cond (some (eqb e) E) [] D
 
   -- Figure 4: "D := Auth2(e, L, R, E); if Holds2(d, L, ∅) = true for a condition d ∈ D then return true else return false".
