@@ -1,4 +1,4 @@
--- The worked examples.
+-- The worked examples: what the figures and their executions answer, computed.
 use mathlib.Core.Path.{_≡_, refl, ap, _∙_}
 use mathlib.Core.Bool.{Bool, true, false, cond}
 use Prim.Native.Nat.{ℕ, zero, suc}

@@ -25,7 +25,7 @@ use Rattle.book.proofs.Reached.{fresh-reached, reached-after}
 use Rattle.book.proofs.Demand2.{demand-2}
 use Rattle.book.proofs.Demand3.{after}
 use Rattle.query.specs.Query.{fullQuery, fullSaid, implied}
-use Rattle.query.specs.Answers.{AsClosedSets}
+use Rattle.query.specs.Corrected.{AsClosedSets}
 use Rattle.query.proofs.Follows.{corrected}
 use Rattle.query.proofs.Reached.{formed, reached-formed}
 

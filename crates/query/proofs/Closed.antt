@@ -22,7 +22,7 @@ use Rattle.book.specs.Closed.{rowAt, ClosedSet}
 use Rattle.book.specs.Demands.{Stands, Lacking}
 use Rattle.query.specs.Figures.{Said, sameSaid, Condition, saidUnder}
 use Rattle.query.specs.Query.{InSaid, InTruth, sayings, Formed}
-use Rattle.query.specs.Answers.{Has, StandsAll, LackingOne}
+use Rattle.query.specs.Corrected.{Has, StandsAll, LackingOne}
 use Rattle.query.proofs.Search.{walk, search-sound, search-closed}
 use Rattle.query.proofs.Conditions.{every, every-out, every-in, Given, T-true}
 use Rattle.query.proofs.Steps.{saidStep, queryStep, heard, found, said-out, said-in, query-out, trust-in, authority-in, granted-in, said-under, every-at, at-every, said-is, said-search, query-search}

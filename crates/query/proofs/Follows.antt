@@ -12,7 +12,7 @@ use Rattle.book.specs.Machine.{State}
 use Rattle.book.specs.Demands.{Stands, Lacking}
 use Rattle.query.specs.Figures.{Said, Condition, sameSaid, some, conditions, issuedBy, allowed, holds2, said2, auth2, query2}
 use Rattle.query.specs.Query.{InTruth, InSaid, Single, sayings, Formed, Follows, saidWithin, queryWithin, fullQuery, fullSaid}
-use Rattle.query.specs.Answers.{Has, StandsAll, LackingOne, AsClosedSets, Ends}
+use Rattle.query.specs.Corrected.{Has, StandsAll, LackingOne, AsClosedSets, Ends}
 use Rattle.query.proofs.Search.{walk, same-answer, ends, solved}
 use Rattle.query.proofs.Conditions.{every, some-same, every-out, holds-every}
 use Rattle.query.proofs.Steps.{saidStep, queryStep, heard, found, query-mono, said-search, query-search}

@@ -1,6 +1,6 @@
 pub mod Figures
 pub mod Query
-pub mod Answers
+pub mod Corrected
 pub mod ByBudget
 pub mod Executions
 pub mod Examples
