@@ -1,9 +1,9 @@
 -- Demand 1: every record and every lent book gets its answer.
-use Prim.Native.Nat.{ℕ}
+use Prim.Native.Nat.{ℕ, _≤_}
 use mathlib.Core.Path.{_≡_, refl, sym, ap, _∙_}
 use mathlib.Core.Bool.{Bool, true, false, cond}
 use mathlib.Core.List.{List}
-use mathlib.Core.Logic.{_↔_}
+use mathlib.Core.Logic.{_↔_, _⊎_, inl, inr}
 use native.Mathlib.Omega.{arith}
 use lib.ListN.{getD}
 use lib.Dec.{eqb}
@@ -19,8 +19,10 @@ use Rattle.book.specs.declared.Answer.the-variants.{Permitted, NotPermit
 use Rattle.book.specs.declared.Answered.{Answered}
 use Rattle.book.specs.Machine.{State, Step, Verdict, changes, asks, refuses, refuse, act, acted, step, hasLicence}
 use Rattle.book.specs.Counts.{countsOf}
+use Rattle.book.specs.Books.{BookForm}
 use Rattle.book.specs.Calls.{answerOf, marksAfter, Follows, Called}
 use Rattle.book.specs.Demands.{Turned, Answers, Demand1}
+use Rattle.reader.proofs.Faults.{fault-range}
 use Rattle.book.proofs.Shown.{shows-some}
 use Rattle.book.proofs.Demand2.{answer-yes, answer-no}
 
@@ -46,6 +48,15 @@ module _ (M : State) (k : ℕ) where
   turned (got (WD p g) n) = two _ accepts 7 n (hasLicence (record { issuer = p; what = g }) (M .L))
   turned (got (QU c) n) = two _ (λ i e. let z : _≡_ {A = ℕ} 0 1 = cc in omega arith) 6 n (fits (numberConcl c (M .N)))
   turned (refused j) = (λ e. let d : j ≡ k = cc in d, λ h. ap refuses h)
+
+  -- a number that is said is 1 to 7
+  turned-range : (s : List ℕ) (o : Outcome Record) → readRecord s ≡ o → Turned M o k → (1 ≤ k) × (k ≤ 7)
+  turned-range s (got (TG g) n) e h = (omega (arith, h .1), omega (arith, h .1))
+  turned-range s (got (ST g) n) e h = (omega (arith, h .1), omega (arith, h .1))
+  turned-range s (got (LI p g) n) e h = (omega (arith, h .1), omega (arith, h .1))
+  turned-range s (got (WD p g) n) e h = (omega (arith, h .1), omega (arith, h .1))
+  turned-range s (got (QU c) n) e h = (omega (arith, h .1), omega (arith, h .1))
+  turned-range s (refused j) e h = let f = fault-range s j e in (omega (arith, h, f .0), omega (arith, h, f .1))
 
 -- what the answer says, by the verdict
 
@@ -104,9 +115,27 @@ module _ {M : State} {b : Book} {m s : List ℕ} {r : Answered} {n : List ℕ} (
     kept = λ k e.
         let v = answer-refused m n (step M s .says) k .0 (as-answer (Refused k) .0 e) in
         (F .kept k v, F .marks ∙ ap (λ (w : Verdict). marksAfter w (r .book) m) v);
+    numbered = λ k e.
+        turned-range M k s (readRecord s) refl (turned M k (readRecord s) .0 (answer-refused m n (step M s .says) k .0 (as-answer (Refused k) .0 e)));
   }
 
 -- Every record of bytes and every lent book gets an answer, each under its condition and no other; a refused record leaves
 -- every part of the book unchanged.
 pub demand-1 : (b : Book) (m s : List ℕ) (r : Answered) (n : List ℕ) → Called b m s r n → Demand1 b m s r n
-demand-1 b m s r n C = record { unformed = C .unformed; formed = λ f M sh. answers (C .formed f M sh); shown = λ f. shows-some b m f }
+demand-1 b m s r n C = record {
+  unformed = C .unformed;
+  formed = λ f M sh. answers (C .formed f M sh);
+  shown = λ f. shows-some b m f;
+  nine = (λ e f. let h = in-range f 9 e in omega (arith, h .1), out);
+  numbered = by (C .decided);
+}
+  where
+    in-range : BookForm b m → (k : ℕ) → r .answer ≡ Refused k → (1 ≤ k) × (k ≤ 7)
+    in-range f = let w = shows-some b m f in answers (C .formed f (w .0) (w .1)) .numbered
+
+    out : (BookForm b m → ⊥) → r .answer ≡ Refused 9
+    out d = ap (λ (x : Answered). x .answer) (C .unformed d .0)
+
+    by : BookForm b m ⊎ (BookForm b m → ⊥) → (k : ℕ) → r .answer ≡ Refused k → (1 ≤ k) × (k ≤ 9) × (k ≡ 8 → ⊥)
+    by (inl f) k e = let h = in-range f k e in (h .0, omega (arith, h .1), λ q. omega (arith, h .1, q))
+    by (inr d) k e = let q : Refused 9 ≡ Refused k = sym (out d) ∙ e in let z : 9 ≡ k = cc in (omega (arith, z), omega (arith, z), λ x. omega (arith, z, x))

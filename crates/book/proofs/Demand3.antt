@@ -13,10 +13,10 @@ use Rattle.book.specs.Machine.{State, start, step}
 use Rattle.book.specs.Counts.{ones}
 use Rattle.book.specs.Calls.{Called}
 use Rattle.book.specs.Chains.{freshBook, freshMarks, Call, Chain, none, then, records, runs, allGains, allLosses}
-use Rattle.book.specs.Demands.{Agrees, OneWay, AllOneWay, Demand3}
+use Rattle.book.specs.Demands.{Agrees, NoLoss, NoGain, OneWay, AllOneWay, Demand3}
 use Rattle.book.proofs.Balance.{ones-none}
 use Rattle.book.proofs.ClosedBook.{stands-in}
-use Rattle.book.proofs.Moving.{Moved, moved}
+use Rattle.book.proofs.Moving.{Moved, moved, Still}
 use Rattle.book.proofs.Reached.{Reached, fresh-reached, fol, reached-after, call-balance, no-loss, no-gain}
 
 -- what holds after a list of calls from a book that was reached
@@ -30,6 +30,9 @@ module _ {b : Book} {m s : List ℕ} {r : Answered} {n : List ℕ} {M : State} (
   abbrev this : Call
   this = record { record′ = s; before = b; marks = m; gave = r; left = n }
 
+  both-still : Still M (step M s .next) → (NoLoss this) × (NoGain this)
+  both-still u = (no-loss R C (record { grows = u .grows; ext = u .ext }), no-gain R C (record { shrinks = u .shrinks; ext = u .ext }))
+
   -- a call goes one way, by its record
   one-way : (o : Outcome Record) → readRecord s ≡ o → Moved M o → OneWay o this
   unfolding step
@@ -37,8 +40,8 @@ module _ {b : Book} {m s : List ℕ} {r : Answered} {n : List ℕ} {M : State} (
   one-way (got (ST g) k) e u = no-gain R C (rw e u)
   one-way (got (LI p g) k) e u = no-loss R C (rw e u)
   one-way (got (WD p g) k) e u = no-gain R C (rw e u)
-  one-way (got (QU c) k) e u = tt
-  one-way (refused k) e u = tt
+  one-way (got (QU c) k) e u = both-still (rw e u)
+  one-way (refused k) e u = both-still (rw e u)
 
 pub after : {b b′ : Book} {m m′ : List ℕ} {cs : List Call} {M : State} → Reached b m M → Chain b m cs b′ m′ → After M m cs b′ m′
 unfolding runs records Agrees AllOneWay allGains allLosses

@@ -1,3 +1,4 @@
+pub mod Again
 pub mod Balance
 pub mod ClosedBook
 pub mod Decided

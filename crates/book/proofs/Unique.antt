@@ -1,25 +1,24 @@
 -- At a call no choice is left: book, marks and bytes decide the answer, the book and the marks that it leaves.
-use Prim.Native.Nat.{ℕ, zero, suc, _+_, _*_, _/_, _%_, _≤_, _<_}
-use mathlib.Core.Path.{_≡_, refl, sym, ap, subst, _∙_}
+use Prim.Native.Nat.{ℕ, zero, suc, _+_, _*_, _/_, _%_, _<_}
+use mathlib.Core.Path.{_≡_, sym, ap, _∙_}
 use mathlib.Core.List.{List}
+use mathlib.Core.Logic.{_⊎_, inl, inr}
 use native.Mathlib.Omega.{arith}
 use native.Mathlib.Decide.{decLt}
 use lib.ListN.{length, getD}
 use lib.Seq.{ext-getD}
-use Rattle.sorts.specs.declared.Row.{Row}
 use Rattle.sorts.specs.Blank.{noRow}
-use Rattle.rows.specs.Form.{rowsOut}
 use Rattle.rows.proofs.Shown.{Shown}
 use Rattle.reader.proofs.Fuse.{ext-refl}
 use Rattle.rules.specs.Rules.{flag}
 use Rattle.book.specs.declared.Book.{Book}
-use Rattle.book.specs.declared.Answer.{Answer}
 use Rattle.book.specs.declared.Answered.{Answered}
-use Rattle.book.specs.Machine.{State, Verdict, step}
+use Rattle.book.specs.Machine.{State, step}
 use Rattle.book.specs.Books.{BookForm, Shows}
 use Rattle.book.specs.Calls.{answerOf, marksAfter, Called}
 use Rattle.book.proofs.ClosedBook.{shown}
 use Rattle.book.proofs.RowBack.{shown-more}
+use Rattle.book.proofs.Shown.{shows-some}
 
 -- two books in form that show the same state are the same
 
@@ -63,8 +62,8 @@ module _ {b b′ : Book} {m m′ : List ℕ} {M : State} (f : BookForm b m) (f�
   same-book = λ i. record { rows = same-rows i; count = same-count i; flags = same-flags i }
 
 -- Two calls with the same book in form, marks and bytes have the same answer, bytes used, book and marks.
-pub no-choice : (b : Book) (m s : List ℕ) (M : State) → BookForm b m → Shows b M → (r r′ : Answered) (n n′ : List ℕ) → Called b m s r n → Called b m s r′ n′ → (r ≡ r′) × (n ≡ n′)
-no-choice b m s M f sh r r′ n n′ C C′ =
+no-choice-formed : (b : Book) (m s : List ℕ) (M : State) → BookForm b m → Shows b M → (r r′ : Answered) (n n′ : List ℕ) → Called b m s r n → Called b m s r′ n′ → (r ≡ r′) × (n ≡ n′)
+no-choice-formed b m s M f sh r r′ n n′ C C′ =
     let F = C .formed f M sh in
     let F′ = C′ .formed f M sh in
     let book : r .book ≡ r′ .book = same-book (F .form) (F′ .form) (F .shows) (F′ .shows) in
@@ -72,3 +71,11 @@ no-choice b m s M f sh r r′ n n′ C C′ =
     let answer : r .answer ≡ r′ .answer = F .answer ∙ ap (answerOf (step M s .says) m) marks ∙ sym (F′ .answer) in
     let used : r .used ≡ r′ .used = F .used ∙ sym (F′ .used) in
     (λ i. record { book = book i; answer = answer i; used = used i }, marks)
+
+-- whatever book, marks and bytes
+pub no-choice : (b : Book) (m s : List ℕ) (r r′ : Answered) (n n′ : List ℕ) → Called b m s r n → Called b m s r′ n′ → (r ≡ r′) × (n ≡ n′)
+no-choice b m s r r′ n n′ C C′ = by (C .decided)
+  where
+    by : BookForm b m ⊎ (BookForm b m → ⊥) → (r ≡ r′) × (n ≡ n′)
+    by (inl f) = let w = shows-some b m f in no-choice-formed b m s (w .0) f (w .1) r r′ n n′ C C′
+    by (inr d) = let x = C .unformed d in let y = C′ .unformed d in (x .0 ∙ sym (y .0), x .1 ∙ sym (y .1))

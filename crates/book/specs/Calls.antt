@@ -1,6 +1,7 @@
 -- What a call answers, and what it leaves: the promise of `call`.
 use Prim.Native.Nat.{ℕ}
 use mathlib.Core.Path.{_≡_}
+use mathlib.Core.Logic.{_⊎_}
 use mathlib.Core.Bool.{cond}
 use mathlib.Core.List.{List}
 use lib.ListN.{getD}
@@ -39,5 +40,6 @@ pub record Follows (M : State) (b : Book) (m s : List ℕ) (r : Answered) (n : L
 -- THE PROMISE of a call, whatever book, marks and bytes: out of form it is refused with 9 and uses no byte; in form it follows
 -- the machine. Either way a refusal leaves the book and the marks as they were.
 pub record Called (b : Book) (m s : List ℕ) (r : Answered) (n : List ℕ) : Type 0 where
+  pub decided : BookForm b m ⊎ (BookForm b m → ⊥)
   pub unformed : (BookForm b m → ⊥) → (r ≡ record { book = b; answer = Refused 9; used = 0 }) × (n ≡ m)
   pub formed : BookForm b m → (M : State) → Shows b M → Follows M b m s r n

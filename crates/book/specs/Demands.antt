@@ -1,5 +1,5 @@
 -- What is demanded of every call and of every list of calls from a fresh book.
-use Prim.Native.Nat.{ℕ, _+_}
+use Prim.Native.Nat.{ℕ, _+_, _≤_}
 use mathlib.Core.Path.{_≡_}
 use mathlib.Core.Bool.{false}
 use mathlib.Core.List.{List, [], _∷_}
@@ -57,8 +57,8 @@ OneWay (got (TG g) n) c = NoLoss c
 OneWay (got (ST g) n) c = NoGain c
 OneWay (got (LI p g) n) c = NoLoss c
 OneWay (got (WD p g) n) c = NoGain c
-OneWay (got (QU e) n) c = Unit {0}
-OneWay (refused k) c = Unit {0}
+OneWay (got (QU e) n) c = NoLoss c × NoGain c
+OneWay (refused k) c = NoLoss c × NoGain c
 
 unfoldable pub AllOneWay : List Call → Type 0
 AllOneWay [] = Unit {0}
@@ -95,6 +95,7 @@ pub record Answers (M : State) (b : Book) (m s : List ℕ) (r : Answered) (n : L
   pub changed : (x : Counts) → (r .answer ≡ Changed x) ↔ ((step M s .says ≡ changes) × (x ≡ countsOf m n))
   pub used : r .used ≡ step M s .used
   pub kept : (k : ℕ) → r .answer ≡ Refused k → (r .book ≡ b) × (n ≡ m)
+  pub numbered : (k : ℕ) → r .answer ≡ Refused k → (1 ≤ k) × (k ≤ 7)
 
 -- DEMAND 1, of every lent book, marks and bytes: "Every record of bytes and every lent book gets an answer: permitted, not
 -- permitted, a change with its counts, or one of the numbered refusals, each under its condition and no other. A refused record
@@ -103,3 +104,5 @@ pub record Demand1 (b : Book) (m s : List ℕ) (r : Answered) (n : List ℕ) : T
   pub unformed : (BookForm b m → ⊥) → (r ≡ record { book = b; answer = Refused 9; used = 0 }) × (n ≡ m)
   pub formed : BookForm b m → (M : State) → Shows b M → Answers M b m s r n
   pub shown : BookForm b m → (M : State) × Shows b M
+  pub nine : (r .answer ≡ Refused 9) ↔ (BookForm b m → ⊥)
+  pub numbered : (k : ℕ) → r .answer ≡ Refused k → (1 ≤ k) × (k ≤ 9) × (k ≡ 8 → ⊥)

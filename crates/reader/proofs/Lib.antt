@@ -2,6 +2,7 @@ pub mod Allowed
 pub mod Answers
 pub mod Exact
 pub mod Examples
+pub mod Faults
 pub mod Found
 pub mod Fuse
 pub mod Gives

@@ -1,0 +1,60 @@
+-- "entering or issuing what stands is accepted, with gain 0 where the marks were the standing statements"
+use Prim.Native.Nat.{ℕ}
+use mathlib.Core.Path.{_≡_, sym, ap, subst, _∙_}
+use mathlib.Core.Bool.{Bool, true, cond}
+use mathlib.Core.List.{List, [], _∷_, _++_}
+use native.Mathlib.Omega.{arith}
+use borrow.Author.Tests.{le-leb}
+use lib.IntN.{pos, _-ℤ_}
+use lib.ListN.{length}
+use Rattle.rows.specs.Written.{Grant}
+use Rattle.rows.specs.Numbering.{has, add, number}
+use Rattle.rows.proofs.Known.{numbered-known}
+use Rattle.reader.specs.Bytes.{got}
+use Rattle.reader.specs.Records.{TG, readRecord}
+use Rattle.reader.specs.Requests.{fits}
+use Rattle.rules.specs.Standing.{standing}
+use Rattle.book.specs.declared.Book.{Book}
+use Rattle.book.specs.declared.Answer.the-variants.{Changed}
+use Rattle.book.specs.declared.Answered.{Answered}
+use Rattle.book.specs.Machine.{State, Verdict, Step, changes, refuse, act, acted, step}
+use Rattle.book.specs.Counts.{gains, countsOf}
+use Rattle.book.specs.Books.{Shows}
+use Rattle.book.specs.Calls.{answerOf, Called}
+use Rattle.book.proofs.Balance.{none-gained}
+use Rattle.book.proofs.ClosedBook.{shown}
+use Rattle.book.proofs.Reached.{Reached, fol, reached-after}
+use Rattle.book.proofs.Unique.{same-book}
+
+module _ {b : Book} {m s : List ℕ} {r : Answered} {n : List ℕ} {M : State} (R : Reached b m M) (C : Called b m s r n) where
+  idle : step M s .says ≡ changes → step M s .next ≡ M →
+      (r .book ≡ b) × (n ≡ m) × (r .answer ≡ Changed (record { gained = 0; lost = 0; net = pos 0 }))
+  unfolding answerOf countsOf
+  idle e h =
+      let F = fol R C in
+      let book : r .book ≡ b = same-book (F .form) (R .form) (subst (Shows (r .book)) h (F .shows)) (R .shows) in
+      let marks : n ≡ m = reached-after R C .stands ∙ ap (λ (x : Book). standing (x .rows) (x .flags)) book ∙ sym (R .stands) in
+      let z : gains m m ≡ 0 = none-gained m m (R .form .markBits) (R .form .markBits) (λ i x. x) in (
+        book,
+        marks,
+        F .answer ∙ ap (λ (v : Verdict). answerOf v m n) e ∙ ap (λ (l : List ℕ). Changed (countsOf m l)) marks ∙
+            (λ i. Changed (record { gained = z i; lost = z i; net = pos (z i) -ℤ pos (z i) })),
+      )
+
+  room : fits (M .N) ≡ true
+  room = let S = shown b m M (R .form) (R .shows) in le-leb (length (M .N)) 64 (let c = S .counted in let d = R .form .table .count in omega (arith, c, d))
+
+  known : (g : Grant) → has g (M .N) ≡ true → number g (M .N) ≡ M .N
+  known g = numbered-known (shown b m M (R .form) (R .shows)) g
+
+  pub enter-again : (g : Grant) (k : ℕ) → readRecord s ≡ got (TG g) k → has g (M .T) ≡ true →
+      (r .book ≡ b) × (n ≡ m) × (r .answer ≡ Changed (record { gained = 0; lost = 0; net = pos 0 }))
+  unfolding add step act
+  enter-again g k e t = idle (ap (λ (x : Step). x .says) all) (ap (λ (x : Step). x .next) all)
+    where
+      same : add g (M .T) ≡ M .T
+      same = ap (λ (c : Bool). cond c (M .T) (M .T ++ (g ∷ []))) t
+
+      all : step M s ≡ record { next = M; says = changes; used = k }
+      all = ap (acted M) e ∙ ap (λ (c : Bool). cond c (record { next = record { T = add g (M .T); L = M .L; N = number g (M .N) }; says = changes; used = k }) (refuse M 6 k)) (ap (λ (l : List Grant). fits l) (known g (R .shows .trustedIn g t)) ∙ room) ∙
+          (λ i. record { next = record { T = same i; L = M .L; N = known g (R .shows .trustedIn g t) i }; says = changes; used = k })
