@@ -5,4 +5,5 @@ pub mod Letters
 pub mod Marks
 pub mod Saying
 pub mod Reading
+pub mod Only
 pub mod Ending

@@ -7,7 +7,8 @@ use native.Mathlib.Numerals.{add-one}
 use lib.ListN.{length, take, getD, set, length-append}
 use lib.Seq.{take-suc-set, take-suc}
 use Rattle.journal.specs.declared.text.Text.{Text}
-use Rattle.journal.specs.inner.Texts.{written, Puts, Holds}
+use Rattle.journal.specs.Texts.{written, Holds}
+use Rattle.journal.specs.inner.Texts.{Puts}
 
 -- one byte after a text
 pub push-puts : (t : Text) (b : ℕ) → t .len < length (t .bytes) → Puts t (b ∷ []) (record { bytes = set (t .bytes) (t .len) b; len = t .len + 1 })

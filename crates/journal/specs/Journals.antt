@@ -13,7 +13,9 @@ use Rattle.book.specs.declared.Answered.{Answered}
 use Rattle.book.specs.Calls.{Called}
 use Rattle.book.specs.Chains.{Call, freshBook, freshMarks}
 use Rattle.journal.specs.declared.Stepped.{Stepped}
+use Rattle.journal.specs.declared.text.Text.{Text}
 use Rattle.journal.specs.Lines.{lineOf, endOf, refusedLine}
+use Rattle.journal.specs.Texts.{Holds}
 
 -- "One record may be followed by others; the answer carries the bytes used." "Refusals 1 to 5 end the reading": they use no
 -- byte. What is left to read of a journal s after a record of it.
@@ -56,15 +58,37 @@ pub data Listed (s : List ℕ) : List (List ℕ) → Type 0 where
 unfoldable pub nextPlace : ℕ → ℕ → ℕ → ℕ
 nextPlace len at used = cond (eqb used 0) len (min len (at + used))
 
--- THE PROMISE of a step at a place of the journal s: it is the call on what is left to read.
-pub record Steps (b : Book) (m s : List ℕ) (at : ℕ) (r : Stepped) (n : List ℕ) : Type 0 where
-  pub call : Called b m (drop at s) (r .answered) n
+-- THE PROMISE of a step at a place of the journal s, which is that of record n: it is the call on what is left to read, and its
+-- line is that record's.
+pub record Steps (b : Book) (m s : List ℕ) (at n : ℕ) (r : Stepped) (m′ : List ℕ) : Type 0 where
+  pub call : Called b m (drop at s) (r .answered) m′
+  pub line : Holds (r .line) (lineOf n (drop at s) (r .answered .answer))
   pub next : r .next ≡ nextPlace (length s) at (r .answered .used)
 
--- THE PROMISE of reading a journal s to its end, from a fresh book and fresh marks: n record lines, and the marks m that the
--- last call left.
-pub record Ran (s m : List ℕ) (n : ℕ) : Type 0 where
-  pub calls : List Call
-  pub book : Book
-  pub made : Calls freshBook freshMarks s calls book m
-  pub count : length calls ≡ n
+-- The calls of the first records of a journal s, from a fresh book and fresh marks, to the book and marks that the last one left
+-- and what is left to read.
+pub data Begun (s : List ℕ) : List Call → Book → List ℕ → List ℕ → Type 0 where
+  fresh : Begun s [] freshBook freshMarks s
+  after : {cs : List Call} {b : Book} {m : List ℕ} (t : List ℕ) (r : Answered) (n : List ℕ) → Begun s cs b m t → 0 < length t →
+      Called b m t r n →
+      Begun s (cs ++ (record { record′ = t; before = b; marks = m; gave = r; left = n } ∷ [])) (r .book) n (restAfter (r .used) t)
+
+-- The line that follows k lines of the listing of s: "Refusal 8 is the one line `refused 8`"; else "each record gives a line
+-- with its number from 1", and after all records "the last line has the count of record lines and of marks standing".
+pub data LineAfter (s : List ℕ) (k : ℕ) : List ℕ → Type 0 where
+  whole : 65536 < length s → k ≡ 0 → LineAfter s k (refusedLine 8)
+  one : {cs : List Call} {b : Book} {m : List ℕ} (t : List ℕ) (r : Answered) (n : List ℕ) → length s < 65537 → Begun s cs b m t →
+      length cs ≡ k → 0 < length t → Called b m t r n → LineAfter s k (lineOf (k + 1) t (r .answer))
+  last : {cs : List Call} {b : Book} (m : List ℕ) → length s < 65537 → Begun s cs b m [] → length cs ≡ k → LineAfter s k (endOf k m)
+
+-- DEMANDED of a text that is written after k lines of the listing of s: it is the line that follows them.
+pub record Follows (s : List ℕ) (k : ℕ) (t : Text) : Type 0 where
+  pub line : List ℕ
+  pub holds : Holds t line
+  pub follows : LineAfter s k line
+
+-- THE PROMISE of listing s: there is a listing, and as many lines as it has were written.
+pub record Ran (s : List ℕ) (k : ℕ) : Type 0 where
+  pub lines : List (List ℕ)
+  pub listed : Listed s lines
+  pub count : length lines ≡ k

@@ -4,17 +4,27 @@ pub mod text;
 
 use book::Answered;
 use book::Book;
+use text::Text;
 ghost use mathlib.Core.Path.{_≡_};
 ghost use Prim.Native.Nat.{_≤_};
+ghost use lib.Dec.{ltb};
 ghost use lib.ListN.{length};
 ghost use Rattle.journal.specs.Journals.{Steps, nextPlace};
 
 // The most bytes that a journal has.
-pub const MOST: usize = 65536;
+const MOST: usize = 65536;
 
-// What the call on a record answered, and where the next record starts.
+// Whether a journal of n bytes has too many.
+pub fn over(n: usize) -> bool
+    ensures { λ r. ⌜ r ≡ ltb 65536 n ⌝ }
+{
+    MOST < n
+}
+
+// What the call on a record answered, the record's line, and where the next record starts.
 pub struct Stepped {
     pub answered: Answered,
+    pub line: Text,
     pub next: usize,
 }
 
@@ -32,12 +42,18 @@ fn next_place(len: usize, at: usize, used: usize) -> usize
     at + used
 }
 
-// The call on the part of the journal that starts at the next record.
-pub fn step(b: Book, marks: &mut [u8], s: &[u8], at: usize) -> Stepped
+// The call on the part of the journal that starts at the next record, which is record n.
+pub fn step(b: Book, marks: &mut [u8], s: &[u8], at: usize, n: usize) -> Stepped
     requires { ⌜ at ≤ length (now s) ⌝ }
-    ensures { λ r. ⌜ Steps b (now (marks .entry)) (now (s .entry)) at r (now (marks .exit)) ⌝ }
+    ensures { λ r. ⌜ Steps b (now (marks .entry)) (now (s .entry)) at n r (now (marks .exit)) ⌝ }
 {
     let answered = book::call(b, marks, &s[at..]);
+    let answer = answered.answer;
+    let line = lines::record_line(n, &s[at..], answer);
     let next = next_place(s.len(), at, answered.used);
-    Stepped { answered, next }
+    Stepped {
+        answered,
+        line,
+        next,
+    }
 }

@@ -9,7 +9,8 @@ ghost use mathlib.Core.Path.{_≡_};
 ghost use Prim.Native.Nat.{_≤_};
 ghost use lib.ListN.{take};
 ghost use Rattle.journal.specs.Lines.{lettersOf, said, lineOf, endOf, refusedLine};
-ghost use Rattle.journal.specs.inner.Texts.{Puts, Holds, oneOf};
+ghost use Rattle.journal.specs.Texts.{Holds};
+ghost use Rattle.journal.specs.inner.Texts.{Puts, oneOf};
 ghost use Rattle.book.specs.Counts.{ones};
 
 // The first two bytes of s, or all where it has fewer.

@@ -3,7 +3,8 @@ ghost use mathlib.Core.List.{[], _∷_};
 ghost use Prim.Native.Nat.{_+_, _<_, _≤_};
 ghost use lib.ListN.{length};
 ghost use Rattle.journal.specs.Lines.{decimal, signed};
-ghost use Rattle.journal.specs.inner.Texts.{Puts, Holds};
+ghost use Rattle.journal.specs.Texts.{Holds};
+ghost use Rattle.journal.specs.inner.Texts.{Puts};
 
 pub struct Text {
     pub bytes: [u8; 64],

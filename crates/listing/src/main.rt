@@ -1,62 +1,185 @@
-// Reads a journal from standard input, and writes the listing to standard output.
+// Reads a journal from standard input, and writes the listing to standard output. What fails is told on standard error.
 use book::Book;
 use journal::lines;
 use journal::text::Text;
+use libc::EINTR;
+use libc::STDERR_FILENO;
 use libc::STDIN_FILENO;
 use libc::STDOUT_FILENO;
 use sorts::Number;
+ghost use mathlib.Core.Bool.{true, false, not};
 ghost use mathlib.Core.Path.{_≡_};
-ghost use Prim.Native.Nat.{_≤_};
+ghost use Prim.Native.Nat.{_+_, _<_, _≤_};
+ghost use lib.ListN.{length, take};
 ghost use Rattle.book.specs.Chains.{freshMarks};
-ghost use Rattle.journal.specs.Journals.{Ran};
+ghost use Rattle.io.specs.Counts.{Counts};
+ghost use Rattle.journal.specs.Journals.{Follows, Ran};
+ghost use Rattle.libc.specs.Io.{Moved};
+ghost use Rattle.listing.specs.Inputs.{Heard};
 
-// How many record lines were made, and whether the output still takes lines.
-struct Run {
+// How many bytes were read, how many interrupted reads may still be made again, whether more may come, and whether a read failed.
+struct Input {
+    n: usize,
+    tries: usize,
+    open: bool,
+    failed: bool,
+}
+
+// How many lines were handed to the output, and whether it took them all.
+struct Output {
     lines: usize,
     open: bool,
 }
 
-// Writes a line where the output still takes lines, and tells whether it took this one.
-fn write(open: bool, line: Text) -> bool
-    requires { ⌜ line .len ≤ 64 ⌝ }
+// The input after a read that failed: one that a signal interrupted is made again, any other is told.
+fn failed(i: Input) -> Input
+    ensures { λ r. ⌜ (r .n ≡ i .n) × (r .failed ≡ not (r .open)) × (r .open ≡ true → r .tries < i .tries) ⌝ }
 {
-    let bytes = line.bytes;
-    let n = line.len;
-    if !open {
-        return false;
+    let n = i.n;
+    let tries = i.tries;
+    if os::errno() != EINTR {
+        return Input {
+            n,
+            tries,
+            open: false,
+            failed: true,
+        };
     }
-    io::write_all(STDOUT_FILENO, &bytes[..n])
+    if tries == 0 {
+        return Input {
+            n,
+            tries,
+            open: false,
+            failed: true,
+        };
+    }
+    Input {
+        n,
+        tries: tries - 1,
+        open: true,
+        failed: false,
+    }
 }
 
-// Reads a journal record by record, from a fresh book, and writes a line for each.
-fn read_journal(s: &[u8], marks: &mut [u8]) -> Run
-    requires { ⌜ now marks ≡ freshMarks ⌝ }
-    ensures { λ r. ⌜ Ran (now (s .entry)) (now (marks .exit)) (r .lines) ⌝ }
+// The input after a read into room that answered got.
+fn heard(i: Input, got: isize, room: &[u8]) -> Input
+    requires { ⌜ (i .n + length (now room) < 18446744073709551616) × Moved (length (now room)) got ⌝ }
+    ensures { λ r. ⌜ Heard got i r × (i .n ≤ r .n) × (r .n ≤ i .n + length (now (room .entry))) × (r .open ≡ true → i .n + r .tries < r .n + i .tries) ⌝ }
+{
+    if got < 0 {
+        return failed(i);
+    }
+    let n = i.n;
+    let tries = i.tries;
+    let more = io::count(got, room);
+    if more == 0 {
+        return Input {
+            n,
+            tries,
+            open: false,
+            failed: false,
+        };
+    }
+    Input {
+        n: n + more,
+        tries,
+        open: true,
+        failed: false,
+    }
+}
+
+// One read, into the bytes of buf that are not yet read.
+fn read_some(buf: &mut [u8], i: Input) -> Input
+    requires { ⌜ i .n ≤ length (now buf) ⌝ }
+    ensures { λ r. ⌜ (i .n ≤ r .n) × (r .n ≤ length (now (buf .entry))) × (r .open ≡ true → i .n + r .tries < r .n + i .tries) ⌝ }
+{
+    let at = i.n;
+    let got = libc::read(STDIN_FILENO, &mut buf[at..]);
+    heard(i, got, &buf[at..])
+}
+
+// Reads until buf is full, the input ends or a read fails. A journal that is too long is seen by its first byte too many.
+fn read_all(buf: &mut [u8]) -> Input
+    requires { ⌜ 65536 < length (now buf) ⌝ }
+    ensures { λ r. ⌜ Counts (r .n) (now (buf .exit)) ⌝ }
+{
+    let mut i = Input {
+        n: 0,
+        tries: 1000,
+        open: true,
+        failed: false,
+    };
+    let mut open = true;
+    while open {
+        i = read_some(buf, i);
+        open = i.open;
+    }
+    i
+}
+
+// Writes the next line of the listing of s, where the output took those before it.
+fn write(o: Output, s: &[u8], line: Text) -> Output
+    requires { ⌜ (o .lines ≤ 65536) × Follows (now s) (o .lines) line ⌝ }
+    ensures { λ r. ⌜ (r .lines ≡ o .lines + 1) × (o .open ≡ false → r .open ≡ false) ⌝ }
+{
+    let lines = o.lines + 1;
+    let bytes = line.bytes;
+    let n = line.len;
+    if !o.open {
+        return Output { lines, open: false };
+    }
+    let open = io::write_all(STDOUT_FILENO, &bytes[..n]);
+    Output { lines, open }
+}
+
+// Reads a journal s record by record, from a fresh book, and writes a line for each, and the last line.
+fn list_records(s: &[u8], marks: &mut [u8]) -> Output
+    requires { ⌜ (length (now s) < 65537) × (now marks ≡ freshMarks) ⌝ }
+    ensures { λ r. ⌜ Ran (now (s .entry)) (r .lines) ⌝ }
 {
     let mut b = Book::new();
     let mut at: usize = 0;
-    let mut lines: usize = 0;
-    let mut open = true;
+    let mut o = Output {
+        lines: 0,
+        open: true,
+    };
     while at < s.len() {
-        let r = journal::step(b, marks, s, at);
+        let r = journal::step(b, marks, s, at, o.lines + 1);
         let a = r.answered;
-        let answer = a.answer;
-        lines += 1;
-        open = write(open, lines::record_line(lines, &s[at..], answer));
+        let line = r.line;
+        o = write(o, s, line);
         b = a.book;
         at = r.next;
     }
-    Run { lines, open }
+    write(o, s, lines::end_line(o.lines, marks))
+}
+
+// The listing of the bytes that were read, with no failure.
+fn list(i: Input, bytes: &[u8], marks: &mut [u8]) -> Output
+    requires { ⌜ (i .failed ≡ false) × Counts (i .n) (now bytes) × (now marks ≡ freshMarks) ⌝ }
+    ensures { λ r. ⌜ Ran (take (i .n) (now (bytes .entry))) (r .lines) ⌝ }
+{
+    let n = i.n;
+    if journal::over(n) {
+        let o = Output {
+            lines: 0,
+            open: true,
+        };
+        return write(o, &bytes[..n], lines::refused_line(8));
+    }
+    list_records(&bytes[..n], marks)
 }
 
 fn main() {
     let mut bytes = [0u8; 65537];
     let mut marks = [0u8; Number::MARKS];
-    let n = io::read_full(STDIN_FILENO, &mut bytes);
-    if journal::MOST < n {
-        write(true, lines::refused_line(8));
+    let i = read_all(&mut bytes);
+    if i.failed {
+        io::write_all(STDERR_FILENO, b"listing: reading failed\n");
         return;
     }
-    let r = read_journal(&bytes[..n], &mut marks);
-    write(r.open, lines::end_line(r.lines, &marks));
+    let o = list(i, &bytes, &mut marks);
+    if !o.open {
+        io::write_all(STDERR_FILENO, b"listing: writing failed\n");
+    }
 }

@@ -1,15 +1,12 @@
 -- A text that is being composed.
-use Prim.Native.Nat.{ℕ, _+_, _≤_}
+use Prim.Native.Nat.{ℕ, _+_}
 use mathlib.Core.Path.{_≡_}
 use mathlib.Core.List.{List, _++_}
 use mathlib.Core.Bool.{cond}
 use lib.Dec.{eqb}
-use lib.ListN.{length, take}
+use lib.ListN.{length}
 use Rattle.journal.specs.declared.text.Text.{Text}
-
--- The bytes written so far.
-abbrev pub written : Text → List ℕ
-written t = take (t .len) (t .bytes)
+use Rattle.journal.specs.Texts.{written}
 
 -- What one mark adds to the count of those that stand.
 abbrev pub oneOf : ℕ → ℕ
@@ -19,9 +16,3 @@ oneOf a = cond (eqb a 1) 1 0
 pub record Puts (t : Text) (w : List ℕ) (r : Text) : Type 0 where
   pub text : written r ≡ written t ++ w
   pub len : r .len ≡ t .len + length w
-
--- The text t is w, whole.
-pub record Holds (t : Text) (w : List ℕ) : Type 0 where
-  pub text : written t ≡ w
-  pub len : t .len ≡ length w
-  pub fits : t .len ≤ 64

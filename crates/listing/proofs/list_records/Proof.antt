@@ -1,0 +1,71 @@
+use Prim.Native.Nat.{_-_}
+use mathlib.Core.Path.{_≡_, sym, subst}
+use native.Mathlib.Omega.{arith}
+use lib.ListN.{length}
+use Rattle.journal.proofs.Reading.{Read, read-none, read-step, step-follows, end-follows, read-ran, next-further}
+use borrow.Author.Needs.{needs}
+use Rattle.listing.proofs.list_records.Statement.{statement}
+use Rattle.listing.proofs.list_records.Tie as tie
+use Rattle.listing.proofs.list_records.Reads as reads
+use Rattle.listing.proofs.list_records.Lts as lts
+use Rattle.book.proofs.Book.new.Reads as new-reads
+use Rattle.journal.proofs.lines.end_line.Reads as end-line-reads
+use Rattle.journal.proofs.step.Reads as step-reads
+use Rattle.listing.proofs.write.Reads as write-reads
+
+abbrev Inv-loop : tie.InvT-loop
+Inv-loop s marks₀ b₀ at₀ o₀ marks b at o = Read s b marks at (o .lines) × (length marks ≡ length marks₀)
+
+abbrev μ-loop : tie.MeasureT-loop
+μ-loop s marks₀ b₀ at₀ o₀ marks b at o = length s - at
+
+new-requires : tie.Need-new-requires Inv-loop μ-loop
+new-requires c κs = search needs
+
+loop-holds : tie.Need-loop-holds Inv-loop μ-loop
+loop-holds c = (read-none ((c .before .before .before .args) .s .now) _ _ ((c .new) .ensures) ((c .before .before .before .pre) .1), search needs)
+
+add-step : tie.Need-add-step Inv-loop μ-loop
+add-step c = search needs
+
+step-requires : tie.Need-step-requires Inv-loop μ-loop
+step-requires c κs = search needs
+
+write-requires : tie.Need-write-requires Inv-loop μ-loop
+write-requires c κs = (omega (arith, (c .before .before .before .before .before .before .before .before .loop) .inv .0 .few, (c .before .before .before .before .before .before .before .loop-test) .taken, (c .before .before .before .before .before .before .before .before .before .before .before .before .pre) .0), step-follows ((c .before .before .before .before .before .before .before .before .before .before .before .before .args) .s .now) ((c .before .before .before .before .before .before .before .before .loop) .at) ((c .before .before .before .before .before .before .before .before .loop) .o .lines) ((c .before .before .before .before .before .before .before .before .loop) .inv .0) ((c .before .before .before .before .step) .result) _ ((c .before .before .before .before .before .before .before .loop-test) .taken) ((c .before .before .before .before .step) .ensures) ((c .before .before .before .before .before .before .before .before .before .before .before .before .pre) .0))
+
+loop-less : tie.Need-loop-less Inv-loop μ-loop
+loop-less c = omega (arith, (c .before .before .before .before .before .before .step) .ensures .next, next-further ((c .before .before .before .before .before .before .before .before .before .before .before .before .before .before .args) .s .now) ((c .before .before .before .before .before .before .before .before .before .before .loop) .at) ((c .before .before .before .before .before .before .step) .result .answered .used) ((c .before .before .before .before .before .before .before .before .before .loop-test) .taken))
+
+loop-again : tie.Need-loop-again Inv-loop μ-loop
+loop-again c = (subst (Read ((c .before .before .before .before .before .before .before .before .before .before .before .before .before .before .args) .s .now) ((c .before .before .before .before .before .before .step) .result .answered .book) _ ((c .before .before .before .before .before .before .step) .result .next)) (sym ((c .before .write) .ensures .0)) (read-step ((c .before .before .before .before .before .before .before .before .before .before .before .before .before .before .args) .s .now) ((c .before .before .before .before .before .before .before .before .before .before .loop) .at) ((c .before .before .before .before .before .before .before .before .before .before .loop) .o .lines) ((c .before .before .before .before .before .before .before .before .before .before .loop) .inv .0) ((c .before .before .before .before .before .before .step) .result) _ ((c .before .before .before .before .before .before .before .before .before .loop-test) .taken) ((c .before .before .before .before .before .before .step) .ensures)), search needs)
+
+end-line-requires : tie.Need-end-line-requires Inv-loop μ-loop
+end-line-requires c κs = search needs
+
+write-requires-2 : tie.Need-write-requires-2 Inv-loop μ-loop
+write-requires-2 c κs = (omega (arith, (c .before .before .before .loop) .inv .0 .few, (c .before .before .before .loop) .inv .0 .within, (c .before .before .before .before .before .before .before .pre) .0), end-follows ((c .before .before .before .before .before .before .before .args) .s .now) ((c .before .before .before .loop) .at) ((c .before .before .before .loop) .o .lines) ((c .before .before .before .loop) .inv .0) ((c .before .before .loop-test) .left) _ ((c .before .before .before .before .before .before .before .pre) .0) ((c .end-line) .ensures))
+
+same-length : tie.Need-same-length Inv-loop μ-loop
+same-length c = search needs
+
+returns : tie.Need-returns Inv-loop μ-loop
+returns c = read-ran ((c .before .before .before .before .before .before .before .before .args) .s .now) ((c .before .before .before .before .loop) .at) ((c .before .before .before .before .loop) .o .lines) ((c .before .before .before .before .loop) .inv .0) ((c .before .before .before .loop-test) .left) _ ((c .before .before .before .before .before .before .before .before .pre) .0) ((c .write2) .ensures .0)
+
+pub list-records-spec : {M : Type 1} → statement M
+list-records-spec =
+    tie.close
+    (tie.spec
+    Inv-loop
+    μ-loop
+    new-requires
+    loop-holds
+    add-step
+    step-requires
+    write-requires
+    loop-less
+    loop-again
+    end-line-requires
+    write-requires-2
+    same-length
+    returns)
