@@ -53,7 +53,7 @@ nil-right (x ∷ N) = ap (λ (l : List Grant). x ∷ l) (nil-right N)
 pub ext-refl : (N : List Grant) → Ext N N
 ext-refl N = record { more = []; is = sym (nil-right N) }
 
-ext-trans : {N N' N'' : List Grant} → Ext N N' → Ext N' N'' → Ext N N''
+pub ext-trans : {N N' N'' : List Grant} → Ext N N' → Ext N' N'' → Ext N N''
 ext-trans {N} {N'} {N''} a b = record { more = a .more ++ b .more; is = b .is ∙ ap (λ (l : List Grant). l ++ b .more) (a .is) ∙ append-assoc N (a .more) (b .more) }
 
 pub ext-length : {N N' : List Grant} → Ext N N' → length N ≤ length N'

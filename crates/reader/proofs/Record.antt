@@ -297,6 +297,7 @@ reads-over s t l = record {
   rows = λ f. let c = f .count in absurd (omega arith);
   form = λ f. f;
   kept = λ e. refl;
+  within = λ h. absurd (omega arith);
 }
 
 pub reads-within : (s : List ℕ) (t : Table) (r : Reading) → t .count ≤ 64 → r ≡ numRecord s t → Reads s t r
@@ -307,4 +308,5 @@ reads-within s t r l e =
       rows = λ f. record-right t f s .rows;
       form = λ f. record-right t f s .form;
       kept = record-keeps s t;
+      within = λ h. refl;
     })

@@ -1,9 +1,10 @@
 -- What the reader answers of a record, and how it numbers the record's grants. Document 01: "TG, LI and QU give numbers to
 -- new grants. ST and WD give none."
-use Prim.Native.Nat.{ℕ, _<_}
+use Prim.Native.Nat.{ℕ, _≤_, _<_}
 use mathlib.Core.Path.{_≡_}
 use mathlib.Core.Bool.{Bool, true, false, cond}
 use mathlib.Core.List.{List}
+use mathlib.Core.Option.{Option, none, some}
 use lib.ListN.{length}
 use lib.Dec.{leb}
 use Rattle.rows.specs.declared.Table.{Table}
@@ -18,16 +19,31 @@ use Rattle.reader.specs.declared.records.Found.the-variants.{Asks, Full,
 use Rattle.reader.specs.declared.records.Reading.{Reading}
 use Rattle.reader.specs.Bytes.{Outcome, got, refused}
 use Rattle.reader.specs.Records.{Record, TG, ST, LI, WD, QU, readRecord}
+use Rattle.reader.specs.inner.OneRecord.{numRecord}
+
+-- "If an answer is an enum, a definition gives this paper's number and values for each of its cases." What the reader finds is a
+-- request, or a refusal with its number; and the bytes used: "the record's length for 6 and 7, else 0".
+abbrev pub numberFound : Found → Option ℕ
+numberFound (Asks q n) = none
+numberFound (Full n) = some 6
+numberFound (Unknown n) = some 7
+numberFound (Refused k) = some k
+
+abbrev pub usedFound : Found → ℕ
+usedFound (Asks q n) = n
+usedFound (Full n) = n
+usedFound (Unknown n) = n
+usedFound (Refused k) = 0
 
 -- "the grants that the record would number and those in N exceed 64": the list that they make is too long.
 abbrev pub fits : List Grant → Bool
 fits N = leb (length N) 64
 
--- To enter g: its number is its place once it is numbered. Full becomes refusal 6.
+-- To enter g: its number is its place once it is numbered.
 abbrev pub entering : Standing → List Grant → Grant → ℕ → Found
 entering by N g n = cond (fits (number g N)) (Asks (Enter by (record { 0 = place g (number g N) })) n) (Full n)
 
--- To remove g, where it has a number. Unknown becomes refusal 7.
+-- To remove g, where it has a number.
 abbrev pub removing : Standing → List Grant → Grant → ℕ → Found
 removing by N g n = cond (has g N) (Asks (Remove by (record { 0 = place g N })) n) (Unknown n)
 
@@ -60,10 +76,11 @@ numbers (Refused k) = false
 
 -- THE PROMISE of the reader, over any table: a count above 64 is out of form, 9; over a table in form the answer and the
 -- rows, written out, are what the two functions say, and the table left is in form; a record that gives no numbers leaves the
--- table as it was, in form or not.
+-- table as it was, in form or not. Over a table out of form with a count up to 64 it is the one pass over the rows as they are.
 pub record Reads (s : List ℕ) (t : Table) (r : Reading) : Type 0 where
   pub over : 64 < t .count → r ≡ record { table = t; found = Refused 9 }
   pub found : TableForm t → r .found ≡ foundOf (rowsOut (t .rows) (t .count)) (readRecord s)
   pub rows : TableForm t → rowsOut (r .table .rows) (r .table .count) ≡ numberedBy (rowsOut (t .rows) (t .count)) (readRecord s)
   pub form : TableForm t → TableForm (r .table)
   pub kept : numbers (r .found) ≡ false → r .table ≡ t
+  pub within : t .count ≤ 64 → r ≡ numRecord s t
