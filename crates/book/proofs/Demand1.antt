@@ -1,10 +1,12 @@
 -- Demand 1: every record and every lent book gets its answer.
 use Prim.Native.Nat.{ℕ, _≤_}
-use mathlib.Core.Path.{_≡_, refl, sym, ap, _∙_}
+use mathlib.Core.Path.{_≡_, refl, sym, ap, subst, _∙_}
 use mathlib.Core.Bool.{Bool, true, false, cond}
 use mathlib.Core.List.{List}
+use mathlib.Core.Option.{some}
 use mathlib.Core.Logic.{_↔_, _⊎_, inl, inr}
 use native.Mathlib.Omega.{arith}
+use lib.IntN.{pos, _-ℤ_}
 use lib.ListN.{getD}
 use lib.Dec.{eqb}
 use Rattle.rows.specs.Numbering.{has, number, numberConcl}
@@ -18,7 +20,7 @@ use Rattle.book.specs.declared.Answer.{Answer}
 use Rattle.book.specs.declared.Answer.the-variants.{Permitted, NotPermitted, Changed, Refused}
 use Rattle.book.specs.declared.Answered.{Answered}
 use Rattle.book.specs.Machine.{State, Step, Verdict, changes, asks, refuses, refuse, act, acted, step, hasLicence}
-use Rattle.book.specs.Counts.{countsOf}
+use Rattle.book.specs.Counts.{countsOf, worth}
 use Rattle.book.specs.Books.{BookForm}
 use Rattle.book.specs.Calls.{answerOf, marksAfter, Follows, Called}
 use Rattle.book.specs.Demands.{Turned, Answers, Demand1}
@@ -28,6 +30,16 @@ use Rattle.book.proofs.Demand2.{answer-yes, answer-no}
 
 both-ways : {A B C : Type 0} → A ↔ B → B ↔ C → A ↔ C
 both-ways p q = (λ a. q .0 (p .0 a), λ c. p .1 (q .1 c))
+
+-- the answers with a number are the refusals
+number-is : (a : Answer) (k : ℕ) → (worth a .number ≡ some k) ↔ (a ≡ Refused k)
+number-is a k = (go a, λ e. ap (λ (x : Answer). worth x .number) e)
+  where
+    go : (x : Answer) → worth x .number ≡ some k → x ≡ Refused k
+    go Permitted e = let z : _≡_ {A = ℕ} 0 1 = cc in absurd (omega arith)
+    go NotPermitted e = let z : _≡_ {A = ℕ} 0 1 = cc in absurd (omega arith)
+    go (Changed c) e = let z : _≡_ {A = ℕ} 0 1 = cc in absurd (omega arith)
+    go (Refused j) e = let d : j ≡ k = cc in ap Refused d
 
 -- what the machine refuses, by the record
 
@@ -60,7 +72,20 @@ module _ (M : State) (k : ℕ) where
 
 -- what the answer says, by the verdict
 
+abbrev Net : Answer → Type 0
+Net a = worth a .net ≡ pos (worth a .gained) -ℤ pos (worth a .lost)
+
 module _ (m n : List ℕ) where
+  answer-net : (v : Verdict) → Net (answerOf v m n)
+  unfolding answerOf countsOf
+  answer-net changes = refl
+  answer-net (asks c) = go (eqb (getD m c 0) 1)
+    where
+      go : (b : Bool) → Net (cond b Permitted NotPermitted)
+      go true = refl
+      go false = refl
+  answer-net (refuses k) = refl
+
   answer-refused : (v : Verdict) (k : ℕ) → (answerOf v m n ≡ Refused k) ↔ (v ≡ refuses k)
   unfolding answerOf
   answer-refused changes k = (λ e. let z : _≡_ {A = ℕ} 0 1 = cc in absurd (omega arith), λ e. let z : _≡_ {A = ℕ} 0 1 = cc in absurd (omega arith))
@@ -104,19 +129,22 @@ module _ {M : State} {b : Book} {m s : List ℕ} {r : Answered} {n : List ℕ} (
   as-answer : (a : Answer) → (r .answer ≡ a) ↔ (answerOf (step M s .says) m n ≡ a)
   as-answer a = (λ e. sym (F .answer) ∙ e, λ e. F .answer ∙ e)
 
+  -- a number that is said is the machine's
+  as-number : (k : ℕ) → (worth (r .answer) .number ≡ some k) ↔ (step M s .says ≡ refuses k)
+  as-number k = both-ways (number-is (r .answer) k) (both-ways (as-answer (Refused k)) (answer-refused m n (step M s .says) k))
+
   answers : Answers M b m s r n
   unfolding step marksAfter
   answers = record {
-    refusals = λ k. both-ways (as-answer (Refused k)) (both-ways (answer-refused m n (step M s .says) k) (turned M k (readRecord s)));
+    refusals = λ k. both-ways (as-number k) (turned M k (readRecord s));
     permitted = both-ways (as-answer Permitted) (answer-permitted m n (step M s .says));
     notPermitted = both-ways (as-answer NotPermitted) (answer-denied m n (step M s .says));
     changed = λ x. both-ways (as-answer (Changed x)) (answer-changed m n (step M s .says) x);
     used = F .used;
     kept = λ k e.
-        let v = answer-refused m n (step M s .says) k .0 (as-answer (Refused k) .0 e) in
+        let v = as-number k .0 e in
         (F .kept k v, F .marks ∙ ap (λ (w : Verdict). marksAfter w (r .book) m) v);
-    numbered = λ k e.
-        turned-range M k s (readRecord s) refl (turned M k (readRecord s) .0 (answer-refused m n (step M s .says) k .0 (as-answer (Refused k) .0 e)));
+    numbered = λ k e. turned-range M k s (readRecord s) refl (turned M k (readRecord s) .0 (as-number k .0 e));
   }
 
 -- Every record of bytes and every lent book gets an answer, each under its condition and no other; a refused record leaves
@@ -128,14 +156,19 @@ demand-1 b m s r n C = record {
   shown = λ f. shows-some b m f;
   nine = (λ e f. let h = in-range f 9 e in omega (arith, h .1), out);
   numbered = by (C .decided);
+  net = net-by (C .decided);
 }
   where
-    in-range : BookForm b m → (k : ℕ) → r .answer ≡ Refused k → (1 ≤ k) × (k ≤ 7)
+    in-range : BookForm b m → (k : ℕ) → worth (r .answer) .number ≡ some k → (1 ≤ k) × (k ≤ 7)
     in-range f = let w = shows-some b m f in answers (C .formed f (w .0) (w .1)) .numbered
 
-    out : (BookForm b m → ⊥) → r .answer ≡ Refused 9
-    out d = ap (λ (x : Answered). x .answer) (C .unformed d .0)
+    out : (BookForm b m → ⊥) → worth (r .answer) .number ≡ some 9
+    out d = ap (λ (x : Answered). worth (x .answer) .number) (C .unformed d .0)
 
-    by : BookForm b m ⊎ (BookForm b m → ⊥) → (k : ℕ) → r .answer ≡ Refused k → (1 ≤ k) × (k ≤ 9) × (k ≡ 8 → ⊥)
+    by : BookForm b m ⊎ (BookForm b m → ⊥) → (k : ℕ) → worth (r .answer) .number ≡ some k → (1 ≤ k) × (k ≤ 9) × (k ≡ 8 → ⊥)
     by (inl f) k e = let h = in-range f k e in (h .0, omega (arith, h .1), λ q. omega (arith, h .1, q))
-    by (inr d) k e = let q : Refused 9 ≡ Refused k = sym (out d) ∙ e in let z : 9 ≡ k = cc in (omega (arith, z), omega (arith, z), λ x. omega (arith, z, x))
+    by (inr d) k e = let q : some 9 ≡ some k = sym (out d) ∙ e in let z : 9 ≡ k = cc in (omega (arith, z), omega (arith, z), λ x. omega (arith, z, x))
+
+    net-by : BookForm b m ⊎ (BookForm b m → ⊥) → Net (r .answer)
+    net-by (inl f) = let w = shows-some b m f in subst Net (sym (C .formed f (w .0) (w .1) .answer)) (answer-net m n (step (w .0) s .says))
+    net-by (inr d) = subst Net (sym (ap (λ (x : Answered). x .answer) (C .unformed d .0))) refl

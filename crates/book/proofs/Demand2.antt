@@ -14,9 +14,10 @@ use Rattle.book.specs.declared.Book.{Book}
 use Rattle.book.specs.declared.Answer.the-variants.{Permitted, NotPermitted}
 use Rattle.book.specs.declared.Answered.{Answered}
 use Rattle.book.specs.Machine.{Verdict, asks, start, step}
+use Rattle.book.specs.Closed.{ClosedSet}
 use Rattle.book.specs.Calls.{answerOf, marksAfter, Called}
 use Rattle.book.specs.Chains.{freshBook, freshMarks, Call, Chain, records, runs}
-use Rattle.book.specs.Demands.{Demand2}
+use Rattle.book.specs.Demands.{Demand2, Lacking}
 use Rattle.book.proofs.ClosedBook.{stands-in, stands-out}
 use Rattle.book.proofs.Reached.{fresh-reached, fol, reached-after}
 use Rattle.book.proofs.Demand3.{after}
@@ -57,7 +58,15 @@ demand-2 cs b m K s r n C c e =
         λ h. a ∙ answer-yes (getD m c 0) .1 (subst (λ (l : List ℕ). In l c) (sym w) (i .1 h)),
       );
       notPermitted = (
-        λ h. o .0 (λ q. answer-no (getD m c 0) .0 (sym a ∙ h) (subst (λ (l : List ℕ). In l c) (sym w) q)),
-        λ h. a ∙ answer-no (getD m c 0) .1 (λ q. o .1 h (subst (λ (l : List ℕ). In l c) w q)),
+        λ h. let t = o .0 (λ q. answer-no (getD m c 0) .0 (sym a ∙ h) (subst (λ (l : List ℕ). In l c) (sym w) q)) in (In (t .0), t .1, t .2),
+        λ h. a ∙ answer-no (getD m c 0) .1 (λ q. h .2 (i .0 (subst (λ (l : List ℕ). In l c) w q) (h .0) (h .1))),
       );
     }
+
+-- Where some closed set lacks a statement, some closed list of marks does.
+pub lacking-list : (cs : List Call) (b : Book) (m : List ℕ) → Chain freshBook freshMarks cs b m → (n : ℕ) → Lacking (runs start (records cs)) n →
+    (t : List ℕ) × ClosedSet (runs start (records cs)) (In t) × (In t n → ⊥)
+lacking-list cs b m K n h =
+    let R = after fresh-reached K .reached in
+    let M = runs start (records cs) in
+    stands-out b m M (R .form) (R .shows) n .0 (λ q. h .2 (stands-in b m M (R .form) (R .shows) n .0 q (h .0) (h .1)))

@@ -20,10 +20,10 @@ use Rattle.book.specs.declared.Answer.{Answer}
 use Rattle.book.specs.declared.Answer.the-variants.{Permitted, NotPermitted}
 use Rattle.book.specs.declared.Answered.{Answered}
 use Rattle.book.specs.Machine.{State, Verdict, changes, asks, refuses, start, step, hasLicence}
-use Rattle.book.specs.Counts.{gains, ones, countsOf}
+use Rattle.book.specs.Counts.{gains, ones, countsOf, worth}
 use Rattle.book.specs.Books.{tableOf, BookForm, Shows}
 use Rattle.book.specs.Calls.{answerOf, marksAfter, Follows, Called}
-use Rattle.book.specs.Chains.{freshBook, freshMarks, gainedBy, lostBy}
+use Rattle.book.specs.Chains.{freshBook, freshMarks}
 use Rattle.book.proofs.Balance.{balance, none-gained}
 use Rattle.book.proofs.Forms.{table-rows}
 use Rattle.book.proofs.Moving.{asks-still, Up, Down}
@@ -101,37 +101,37 @@ module _ {b : Book} {m s : List ℕ} {r : Answered} {n : List ℕ} {M : State} (
   same-length = R .form .marks ∙ sym (fol .form .marks)
 
   -- the answer's counts balance the marks
-  answer-balance : (v : Verdict) → n ≡ marksAfter v (r .book) m → gainedBy (answerOf v m n) + ones m ≡ lostBy (answerOf v m n) + ones n
+  answer-balance : (v : Verdict) → n ≡ marksAfter v (r .book) m → worth (answerOf v m n) .gained + ones m ≡ worth (answerOf v m n) .lost + ones n
   unfolding marksAfter answerOf countsOf
   answer-balance changes h = let e = balance m n same-length (R .form .markBits) (fol .form .markBits) in omega arith
   answer-balance (asks c) h = go (eqb (getD m c 0) 1)
     where
-      go : (b : Bool) → gainedBy (cond b Permitted NotPermitted) + ones m ≡ lostBy (cond b Permitted NotPermitted) + ones n
+      go : (b : Bool) → worth (cond b Permitted NotPermitted) .gained + ones m ≡ worth (cond b Permitted NotPermitted) .lost + ones n
       go true = let e = ap ones h in omega arith
       go false = let e = ap ones h in omega arith
   answer-balance (refuses k) h = let e = ap ones h in omega arith
 
-  pub call-balance : gainedBy (r .answer) + ones m ≡ lostBy (r .answer) + ones n
+  pub call-balance : worth (r .answer) .gained + ones m ≡ worth (r .answer) .lost + ones n
   call-balance =
-      ap (λ (a : Answer). gainedBy a + ones m) (fol .answer) ∙ answer-balance (step M s .says) (fol .marks) ∙ ap (λ (a : Answer). lostBy a + ones n) (sym (fol .answer))
+      ap (λ (a : Answer). worth a .gained + ones m) (fol .answer) ∙ answer-balance (step M s .says) (fol .marks) ∙ ap (λ (a : Answer). worth a .lost + ones n) (sym (fol .answer))
 
   -- what the answer reports lost or gained is so
-  answer-lost : (v : Verdict) → gains n m ≡ 0 → lostBy (answerOf v m n) ≡ 0
+  answer-lost : (v : Verdict) → gains n m ≡ 0 → worth (answerOf v m n) .lost ≡ 0
   unfolding answerOf countsOf
   answer-lost changes h = h
   answer-lost (asks c) h = go (eqb (getD m c 0) 1)
     where
-      go : (b : Bool) → lostBy (cond b Permitted NotPermitted) ≡ 0
+      go : (b : Bool) → worth (cond b Permitted NotPermitted) .lost ≡ 0
       go true = refl
       go false = refl
   answer-lost (refuses k) h = refl
 
-  answer-gained : (v : Verdict) → gains m n ≡ 0 → gainedBy (answerOf v m n) ≡ 0
+  answer-gained : (v : Verdict) → gains m n ≡ 0 → worth (answerOf v m n) .gained ≡ 0
   unfolding answerOf countsOf
   answer-gained changes h = h
   answer-gained (asks c) h = go (eqb (getD m c 0) 1)
     where
-      go : (b : Bool) → gainedBy (cond b Permitted NotPermitted) ≡ 0
+      go : (b : Bool) → worth (cond b Permitted NotPermitted) .gained ≡ 0
       go true = refl
       go false = refl
   answer-gained (refuses k) h = refl
@@ -139,14 +139,14 @@ module _ {b : Book} {m s : List ℕ} {r : Answered} {n : List ℕ} {M : State} (
   stands′ : n ≡ standing (r .book .rows) (r .book .flags)
   stands′ = reached-after .stands
 
-  pub no-loss : Up M (step M s .next) → (lostBy (r .answer) ≡ 0) × (gains n m ≡ 0)
+  pub no-loss : Up M (step M s .next) → (worth (r .answer) .lost ≡ 0) × (gains n m ≡ 0)
   no-loss u =
       let a = up-stands (R .form) (R .shows) (fol .form) (fol .shows) (u .ext) (u .grows) in
       let g : gains n m ≡ 0 = none-gained n m (fol .form .markBits) (R .form .markBits) (λ i h. subst (λ (x : List ℕ). In x i) (sym stands′) (a i (subst (λ (x : List ℕ). In x i) (R .stands) h))) in
-      (ap lostBy (fol .answer) ∙ answer-lost (step M s .says) g, g)
+      (ap (λ (a : Answer). worth a .lost) (fol .answer) ∙ answer-lost (step M s .says) g, g)
 
-  pub no-gain : Down M (step M s .next) → (gainedBy (r .answer) ≡ 0) × (gains m n ≡ 0)
+  pub no-gain : Down M (step M s .next) → (worth (r .answer) .gained ≡ 0) × (gains m n ≡ 0)
   no-gain d =
       let a = down-stands (R .form) (R .shows) (fol .form) (fol .shows) (d .ext) (d .shrinks) in
       let g : gains m n ≡ 0 = none-gained m n (R .form .markBits) (fol .form .markBits) (λ i h. subst (λ (x : List ℕ). In x i) (sym (R .stands)) (a i (subst (λ (x : List ℕ). In x i) stands′ h))) in
-      (ap gainedBy (fol .answer) ∙ answer-gained (step M s .says) g, g)
+      (ap (λ (a : Answer). worth a .gained) (fol .answer) ∙ answer-gained (step M s .says) g, g)

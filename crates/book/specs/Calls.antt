@@ -37,8 +37,8 @@ pub record Follows (M : State) (b : Book) (m s : List ℕ) (r : Answered) (n : L
   pub form : BookForm (r .book) n
   pub kept : (k : ℕ) → step M s .says ≡ refuses k → r .book ≡ b
 
--- THE PROMISE of a call, whatever book, marks and bytes: out of form it is refused with 9 and uses no byte; in form it follows
--- the machine. Either way a refusal leaves the book and the marks as they were.
+-- THE PROMISE of a call, whatever book, marks and bytes: the book is in form or it is not; out of form it is refused with 9 and
+-- uses no byte; in form it follows the machine. Either way a refusal leaves the book and the marks as they were.
 pub record Called (b : Book) (m s : List ℕ) (r : Answered) (n : List ℕ) : Type 0 where
   pub decided : BookForm b m ⊎ (BookForm b m → ⊥)
   pub unformed : (BookForm b m → ⊥) → (r ≡ record { book = b; answer = Refused 9; used = 0 }) × (n ≡ m)

@@ -5,10 +5,9 @@ use lib.ListN.{replicate}
 use Rattle.sorts.specs.Blank.{blankRow}
 use Rattle.sorts.specs.Numbers.{allMarks}
 use Rattle.book.specs.declared.Book.{Book}
-use Rattle.book.specs.declared.Answer.{Answer}
-use Rattle.book.specs.declared.Answer.the-variants.{Permitted, NotPermitted, Changed, Refused}
 use Rattle.book.specs.declared.Answered.{Answered}
 use Rattle.book.specs.Machine.{State, step}
+use Rattle.book.specs.Counts.{worth}
 use Rattle.book.specs.Calls.{Called}
 
 -- "A fresh book has blank rows, count 0, and every flag and mark 0."
@@ -43,24 +42,11 @@ unfoldable pub runs : State → List (List ℕ) → State
 runs M [] = M
 runs M (s ∷ ss) = runs (step M s .next) ss
 
--- What one answer gained and lost.
-abbrev pub gainedBy : Answer → ℕ
-gainedBy Permitted = 0
-gainedBy NotPermitted = 0
-gainedBy (Changed c) = c .gained
-gainedBy (Refused k) = 0
-
-abbrev pub lostBy : Answer → ℕ
-lostBy Permitted = 0
-lostBy NotPermitted = 0
-lostBy (Changed c) = c .lost
-lostBy (Refused k) = 0
-
 -- All gains, and all losses, of a list of calls.
 unfoldable pub allGains : List Call → ℕ
 allGains [] = 0
-allGains (c ∷ cs) = gainedBy (c .gave .answer) + allGains cs
+allGains (c ∷ cs) = worth (c .gave .answer) .gained + allGains cs
 
 unfoldable pub allLosses : List Call → ℕ
 allLosses [] = 0
-allLosses (c ∷ cs) = lostBy (c .gave .answer) + allLosses cs
+allLosses (c ∷ cs) = worth (c .gave .answer) .lost + allLosses cs

@@ -3,13 +3,14 @@ use Prim.Native.Nat.{ℕ, _+_, _≤_}
 use mathlib.Core.Path.{_≡_}
 use mathlib.Core.Bool.{false}
 use mathlib.Core.List.{List, [], _∷_}
+use mathlib.Core.Option.{some}
 use mathlib.Core.Logic.{_↔_}
+use lib.IntN.{pos, _-ℤ_}
 use lib.ListN.{getD}
 use Rattle.rows.specs.Numbering.{has, number, numberConcl}
 use Rattle.reader.specs.Bytes.{Outcome, got, refused}
 use Rattle.reader.specs.Records.{Record, TG, ST, LI, WD, QU, readRecord}
 use Rattle.reader.specs.Requests.{fits}
-use Rattle.rules.specs.Standing.{In}
 use Rattle.book.specs.declared.Book.{Book}
 use Rattle.book.specs.declared.Answer.{Answer}
 use Rattle.book.specs.declared.Answer.the-variants.{Permitted, NotPermitted, Changed, Refused}
@@ -17,18 +18,18 @@ use Rattle.book.specs.declared.Counts.{Counts}
 use Rattle.book.specs.declared.Answered.{Answered}
 use Rattle.book.specs.Machine.{State, changes, asks, hasLicence, start, step}
 use Rattle.book.specs.Closed.{ClosedSet}
-use Rattle.book.specs.Counts.{gains, ones, countsOf}
+use Rattle.book.specs.Counts.{gains, ones, countsOf, worth}
 use Rattle.book.specs.Books.{BookForm, Shows}
 use Rattle.book.specs.Calls.{answerOf}
-use Rattle.book.specs.Chains.{Call, records, runs, gainedBy, lostBy, allGains, allLosses}
+use Rattle.book.specs.Chains.{Call, records, runs, allGains, allLosses}
 
 -- A statement stands for the machine when it is in every closed set.
 abbrev pub Stands : State → ℕ → Type 1
 Stands M n = (S : ℕ → Type 0) → ClosedSet M S → S n
 
--- Some closed set, given by a list of marks, lacks it.
-abbrev pub Lacking : State → ℕ → Type 0
-Lacking M n = (t : List ℕ) × ClosedSet M (In t) × (In t n → ⊥)
+-- Some closed set lacks it.
+abbrev pub Lacking : State → ℕ → Type 1
+Lacking M n = (S : ℕ → Type 0) × ClosedSet M S × (S n → ⊥)
 
 -- DEMAND 2, of a query that asks for the conclusion c and was answered a, where the machine is then in the state M: "permitted
 -- exactly when each closed set contains the conclusion, not permitted exactly when some closed set lacks it".
@@ -46,12 +47,13 @@ Agrees M (c ∷ cs) =
 
 -- A call that lost no mark and reports no loss; one that gained none and reports no gain.
 abbrev pub NoLoss : Call → Type 0
-NoLoss c = (lostBy (c .gave .answer) ≡ 0) × (gains (c .left) (c .marks) ≡ 0)
+NoLoss c = (worth (c .gave .answer) .lost ≡ 0) × (gains (c .left) (c .marks) ≡ 0)
 
 abbrev pub NoGain : Call → Type 0
-NoGain c = (gainedBy (c .gave .answer) ≡ 0) × (gains (c .marks) (c .left) ≡ 0)
+NoGain c = (worth (c .gave .answer) .gained ≡ 0) × (gains (c .marks) (c .left) ≡ 0)
 
--- "no enter or issue loses, no strike or withdrawal gains", whether accepted or refused.
+-- "no enter or issue loses, no strike or withdrawal gains", whether accepted or refused; a query and a record with a fault do
+-- neither.
 abbrev pub OneWay : Outcome Record → Call → Type 0
 OneWay (got (TG g) n) c = NoLoss c
 OneWay (got (ST g) n) c = NoGain c
@@ -89,20 +91,22 @@ Turned M (got (QU c) n) k = (fits (numberConcl c (M .N)) ≡ false) × (k ≡ 6)
 
 -- A call on a book in form that shows M: each answer under its condition and no other.
 pub record Answers (M : State) (b : Book) (m s : List ℕ) (r : Answered) (n : List ℕ) : Type 0 where
-  pub refusals : (k : ℕ) → (r .answer ≡ Refused k) ↔ Turned M (readRecord s) k
+  pub refusals : (k : ℕ) → (worth (r .answer) .number ≡ some k) ↔ Turned M (readRecord s) k
   pub permitted : (r .answer ≡ Permitted) ↔ ((c : ℕ) × (step M s .says ≡ asks c) × (getD m c 0 ≡ 1))
   pub notPermitted : (r .answer ≡ NotPermitted) ↔ ((c : ℕ) × (step M s .says ≡ asks c) × (getD m c 0 ≡ 1 → ⊥))
   pub changed : (x : Counts) → (r .answer ≡ Changed x) ↔ ((step M s .says ≡ changes) × (x ≡ countsOf m n))
   pub used : r .used ≡ step M s .used
-  pub kept : (k : ℕ) → r .answer ≡ Refused k → (r .book ≡ b) × (n ≡ m)
-  pub numbered : (k : ℕ) → r .answer ≡ Refused k → (1 ≤ k) × (k ≤ 7)
+  pub kept : (k : ℕ) → worth (r .answer) .number ≡ some k → (r .book ≡ b) × (n ≡ m)
+  pub numbered : (k : ℕ) → worth (r .answer) .number ≡ some k → (1 ≤ k) × (k ≤ 7)
 
 -- DEMAND 1, of every lent book, marks and bytes: "Every record of bytes and every lent book gets an answer: permitted, not
 -- permitted, a change with its counts, or one of the numbered refusals, each under its condition and no other. A refused record
--- leaves every part of the book unchanged." 9: "the lent book is out of form". Every book in form shows some state.
+-- leaves every part of the book unchanged." 9: "the lent book is out of form", exactly then; 8 is never said. Every book in form
+-- shows some state. The net "is gained less lost".
 pub record Demand1 (b : Book) (m s : List ℕ) (r : Answered) (n : List ℕ) : Type 0 where
   pub unformed : (BookForm b m → ⊥) → (r ≡ record { book = b; answer = Refused 9; used = 0 }) × (n ≡ m)
   pub formed : BookForm b m → (M : State) → Shows b M → Answers M b m s r n
   pub shown : BookForm b m → (M : State) × Shows b M
-  pub nine : (r .answer ≡ Refused 9) ↔ (BookForm b m → ⊥)
-  pub numbered : (k : ℕ) → r .answer ≡ Refused k → (1 ≤ k) × (k ≤ 9) × (k ≡ 8 → ⊥)
+  pub nine : (worth (r .answer) .number ≡ some 9) ↔ (BookForm b m → ⊥)
+  pub numbered : (k : ℕ) → worth (r .answer) .number ≡ some k → (1 ≤ k) × (k ≤ 9) × (k ≡ 8 → ⊥)
+  pub net : worth (r .answer) .net ≡ pos (worth (r .answer) .gained) -ℤ pos (worth (r .answer) .lost)
