@@ -11,13 +11,13 @@ use Rattle.rows.specs.Written.{Grant}
 use Rattle.rows.specs.Numbering.{has, add, number}
 use Rattle.rows.proofs.Known.{numbered-known}
 use Rattle.reader.specs.Bytes.{got}
-use Rattle.reader.specs.Records.{TG, readRecord}
+use Rattle.reader.specs.Records.{TG, LI, readRecord}
 use Rattle.reader.specs.Requests.{fits}
 use Rattle.rules.specs.Standing.{standing}
 use Rattle.book.specs.declared.Book.{Book}
 use Rattle.book.specs.declared.Answer.the-variants.{Changed}
 use Rattle.book.specs.declared.Answered.{Answered}
-use Rattle.book.specs.Machine.{State, Verdict, Step, changes, refuse, act, acted, step}
+use Rattle.book.specs.Machine.{State, Licence, Verdict, Step, changes, refuse, act, acted, step, hasLicence, addLicence}
 use Rattle.book.specs.Counts.{gains, countsOf}
 use Rattle.book.specs.Books.{Shows}
 use Rattle.book.specs.Calls.{answerOf, Called}
@@ -58,3 +58,21 @@ module _ {b : Book} {m s : List ℕ} {r : Answered} {n : List ℕ} {M : State} (
       all : step M s ≡ record { next = M; says = changes; used = k }
       all = ap (acted M) e ∙ ap (λ (c : Bool). cond c (record { next = record { T = add g (M .T); L = M .L; N = number g (M .N) }; says = changes; used = k }) (refuse M 6 k)) (ap (λ (l : List Grant). fits l) (known g (R .shows .trustedIn g t)) ∙ room) ∙
           (λ i. record { next = record { T = same i; L = M .L; N = known g (R .shows .trustedIn g t) i }; says = changes; used = k })
+
+  pub issue-again : (p : ℕ) (g : Grant) (k : ℕ) → readRecord s ≡ got (LI p g) k → hasLicence (record { issuer = p; what = g }) (M .L) ≡ true →
+      (r .book ≡ b) × (n ≡ m) × (r .answer ≡ Changed (record { gained = 0; lost = 0; net = pos 0 }))
+  unfolding addLicence step act
+  issue-again p g k e t = idle (ap (λ (x : Step). x .says) all) (ap (λ (x : Step). x .next) all)
+    where
+      x : Licence
+      x = record { issuer = p; what = g }
+
+      same : addLicence x (M .L) ≡ M .L
+      same = ap (λ (c : Bool). cond c (M .L) (M .L ++ (x ∷ []))) t
+
+      numbered : number g (M .N) ≡ M .N
+      numbered = known g (R .shows .issuedIn x t .0)
+
+      all : step M s ≡ record { next = M; says = changes; used = k }
+      all = ap (acted M) e ∙ ap (λ (c : Bool). cond c (record { next = record { T = M .T; L = addLicence x (M .L); N = number g (M .N) }; says = changes; used = k }) (refuse M 6 k)) (ap (λ (l : List Grant). fits l) numbered ∙ room) ∙
+          (λ i. record { next = record { T = M .T; L = same i; N = numbered i }; says = changes; used = k })

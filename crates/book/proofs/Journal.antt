@@ -39,13 +39,13 @@ unfolding opened
 journal-verdicts = refl
 
 -- Smart(2), Good(2), and Perm(0, issue, Good(2))
-abbrev smart : Grant
+abbrev pub smart : Grant
 smart = grant 0 0 none (property 0 2)
 
-abbrev good : Grant
+abbrev pub good : Grant
 good = grant 0 0 none (property 2 2)
 
-abbrev may : Grant
+abbrev pub may : Grant
 may = grant 0 0 none (perm 0 (issue good))
 
 abbrev pub journal-end : State

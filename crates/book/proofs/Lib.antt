@@ -10,7 +10,9 @@ pub mod Fits
 pub mod Following
 pub mod Forms
 pub mod Journal
+pub mod JournalDemands
 pub mod Keeping
+pub mod Kept
 pub mod Loops
 pub mod Moving
 pub mod Net

@@ -1,0 +1,254 @@
+-- Demands 2 and 3 on document 01's own journal, whatever calls have its records: gains less losses are 2, the LI loses nothing, the
+-- WD gains nothing, and the queries have the answers that are printed.
+use Prim.Native.Nat.{ℕ, zero, suc, _+_, _≤_, _<_}
+use mathlib.Core.Path.{_≡_, refl, sym, ap, subst, _∙_}
+use mathlib.Core.Bool.{Bool, true, false, cond, _&&_}
+use mathlib.Core.List.{List, [], _∷_}
+use mathlib.Core.Logic.{_⊎_, inl, inr}
+use native.Mathlib.Omega.{arith}
+use native.Mathlib.Decide.{ℕ-discrete}
+use borrow.Author.Tests.{eqb-true}
+use lib.ListN.{length, getD, set, take, length-set}
+use lib.Seq.{getD-set-same, getD-set-other}
+use lib.Dec.{eqb}
+use Rattle.sorts.specs.Numbers.{saidMark, allMarks}
+use Rattle.rows.specs.Written.{Grant, written, sameBytes, same}
+use Rattle.rows.specs.Numbering.{place, has, add, number}
+use Rattle.rows.specs.Form.{condsOf, rowOf}
+use Rattle.rows.proofs.Bytes.{no-true}
+use Rattle.reader.specs.Bytes.{Outcome, got, byteAt, upto, principal, pack, form, head}
+use Rattle.reader.specs.Grants.{readProperty, readPacked, readIssue, readConcl, readConds, readWith, readGrant}
+use Rattle.reader.specs.Records.{Record, LI, WD, readEntry, readLicence, readQuery, readContent, readRecord}
+use Rattle.rules.specs.Rules.{resUnder, conclUnder, granted, issueMark, Values}
+use Rattle.rules.specs.Standing.{In, Bits}
+use Rattle.rules.proofs.Saturation.{same-marks, zeroes-none}
+use Rattle.book.specs.declared.Book.{Book}
+use Rattle.book.specs.declared.Answer.the-variants.{Permitted, NotPermitted}
+use Rattle.book.specs.Machine.{State, Step, asks, start, without, hasLicence, addLicence, withoutLicence, act, step}
+use Rattle.book.specs.Closed.{rowAt, Licensed, IsTrusted, ClosedSet}
+use Rattle.book.specs.Counts.{ones}
+use Rattle.book.specs.Chains.{freshBook, freshMarks, Call, Chain, none, then, records, runs, allGains, allLosses}
+use Rattle.book.specs.Demands.{Stands, Lacking, NoLoss, NoGain, OneWay, AllOneWay}
+use Rattle.book.proofs.Balance.{ones-none}
+use Rattle.book.proofs.Reached.{fresh-form}
+use Rattle.book.proofs.Demand2.{demand-2}
+use Rattle.book.proofs.Demand3.{demand-3}
+use Rattle.book.proofs.Journal.{journal, smart, good, may, journal-end, journal-runs}
+
+-- The machine when the queries are answered: 0 has issued Good(2), and may at the second.
+abbrev asked : List Grant → List Grant → State
+asked T N = record { T = T; L = record { issuer = 0; what = good } ∷ []; N = N }
+
+abbrev first : State
+first = asked (smart ∷ []) (smart ∷ good ∷ [])
+
+abbrev second : State
+second = asked (smart ∷ may ∷ []) (smart ∷ good ∷ may ∷ [])
+
+-- What each grant gives, which has no variable.
+
+gives-smart : (x y z : ℕ) → (granted (rowAt first 0) x y z ≡ 288) × (granted (rowAt journal-end 0) x y z ≡ 288)
+unfolding rowOf condsOf granted conclUnder
+gives-smart x y z = (refl, refl)
+
+gives-good : (x y z : ℕ) → (granted (rowAt first 1) x y z ≡ 290) × (granted (rowAt second 1) x y z ≡ 290)
+unfolding rowOf condsOf granted conclUnder
+gives-good x y z = (refl, refl)
+
+gives-may : (x y z : ℕ) → (granted (rowAt second 2) x y z ≡ 17) × (granted (rowAt journal-end 2) x y z ≡ 17)
+unfolding rowOf condsOf granted conclUnder resUnder place same sameBytes written
+gives-may x y z = (refl, refl)
+
+-- Which stand.
+
+both-true : (a b : Bool) → cond (a && b) true false ≡ true → (a ≡ true) × (b ≡ true)
+both-true true true e = (refl, refl)
+both-true true false e = absurd (no-true e)
+both-true false b e = absurd (no-true e)
+
+-- the one licence is 0's, with Good(2)
+one-licence : (p g : ℕ) → Licensed first p g → (p ≡ 0) × (g ≡ 1)
+unfolding hasLicence same sameBytes written
+one-licence p zero s = absurd (no-true (both-true (eqb p 0) false (s .1) .1))
+one-licence p (suc zero) s = (eqb-true p 0 (both-true (eqb p 0) true (s .1) .0), refl)
+one-licence p (suc (suc g)) s = absurd (omega (arith, s .0))
+
+one-trusted : (g : ℕ) → IsTrusted first g → g ≡ 0
+unfolding has place same sameBytes written
+one-trusted zero s = refl
+one-trusted (suc zero) s = absurd (no-true (s .1))
+one-trusted (suc (suc g)) s = absurd (omega (arith, s .0))
+
+-- At the first query Good(2) is said and not true: a closed set lacks it.
+abbrev FirstMarks : ℕ → Type 0
+FirstMarks n = (n ≡ 288) ⊎ (n ≡ saidMark 0 290)
+
+not-issue : (p g : ℕ) → p ≡ 0 → g ≡ 1 → FirstMarks (issueMark p g) → ⊥
+not-issue p g e f (inl h) = omega arith
+not-issue p g e f (inr h) = omega arith
+
+first-closed : ClosedSet first FirstMarks
+first-closed = record {
+  saying = λ g x y z p v l s h. said-first g x y z p (one-licence p g s);
+  trust = λ g x y z v s h. true-first g x y z (one-trusted g s);
+  authority = λ g x y z p v l s i h. let q = one-licence p g s in absurd (not-issue p g (q .0) (q .1) i);
+}
+  where
+    said-first : (g x y z p : ℕ) → (p ≡ 0) × (g ≡ 1) → FirstMarks (saidMark p (granted (rowAt first g) x y z))
+    said-first g x y z p q =
+        inr (ap (λ (i : ℕ). saidMark i (granted (rowAt first g) x y z)) (q .0) ∙ ap (λ (i : ℕ). saidMark 0 (granted (rowAt first i) x y z)) (q .1) ∙
+        ap (saidMark 0) (gives-good x y z .0))
+
+    true-first : (g x y z : ℕ) → g ≡ 0 → FirstMarks (granted (rowAt first g) x y z)
+    true-first g x y z e = inl (ap (λ (i : ℕ). granted (rowAt first i) x y z) e ∙ gives-smart x y z .0)
+
+first-lacks : Lacking first 290
+first-lacks = (FirstMarks, first-closed, not-there)
+  where
+    not-there : FirstMarks 290 → ⊥
+    not-there (inl e) = omega arith
+    not-there (inr e) = omega arith
+
+-- At the second 0 has the right to issue it: every closed set has it.
+no-values : (M : State) (g : ℕ) → g < 64 → rowAt M g .prins ≡ 0 → rowAt M g .res ≡ 0 → Values (rowAt M) g 0 0 0
+no-values M g l e f = record { grant = l; first = rw e (omega arith); second = rw e (omega arith); resource = rw f (omega arith) }
+
+second-stands : Stands second 290
+unfolding rowOf condsOf has place hasLicence same sameBytes written
+second-stands S c =
+    let right : S 17 = subst S (gives-may 0 0 0 .0) (c .trust 2 0 0 0 (no-values second 2 (omega arith) refl refl) (omega arith, refl) (λ i l. absurd (omega arith))) in
+    subst S (gives-good 0 0 0 .1) (c .authority 1 0 0 0 0 (no-values second 1 (omega arith) refl refl) (omega arith) (omega arith, refl) right (λ i l. absurd (omega arith)))
+
+-- At the end Perm(0, issue, Good(2)) and Smart(2) stand, and nothing else.
+abbrev EndMarks : ℕ → Type 0
+EndMarks n = (n ≡ 17) ⊎ (n ≡ 288)
+
+no-licence : (p g : ℕ) → Licensed journal-end p g → ⊥
+unfolding hasLicence
+no-licence p g s = no-true (s .1)
+
+end-trusted : (g x y z : ℕ) → IsTrusted journal-end g → EndMarks (granted (rowAt journal-end g) x y z)
+unfolding has place same sameBytes written
+end-trusted zero x y z s = inr (gives-smart x y z .1)
+end-trusted (suc zero) x y z s = absurd (no-true (s .1))
+end-trusted (suc (suc zero)) x y z s = inl (gives-may x y z .1)
+end-trusted (suc (suc (suc g))) x y z s = absurd (omega (arith, s .0))
+
+end-closed : ClosedSet journal-end EndMarks
+end-closed = record {
+  saying = λ g x y z p v l s h. absurd (no-licence p g s);
+  trust = λ g x y z v s h. end-trusted g x y z s;
+  authority = λ g x y z p v l s i h. absurd (no-licence p g s);
+}
+
+end-stands : (n : ℕ) → EndMarks n → Stands journal-end n
+unfolding rowOf condsOf has place hasLicence same sameBytes written
+end-stands n (inl e) S c =
+    subst S (gives-may 0 0 0 .1 ∙ sym e) (c .trust 2 0 0 0 (no-values journal-end 2 (omega arith) refl refl) (omega arith, refl) (λ i l. absurd (omega arith)))
+end-stands n (inr e) S c =
+    subst S (gives-smart 0 0 0 .1 ∙ sym e) (c .trust 0 0 0 0 (no-values journal-end 0 (omega arith) refl refl) (omega arith, refl) (λ i l. absurd (omega arith)))
+
+-- Marks that are those two, and no others, are two.
+
+ones-set : (l : List ℕ) (i : ℕ) → i < length l → getD l i 0 ≡ 0 → ones (set l i 1) ≡ ones l + 1
+unfolding ones
+ones-set [] i h z = absurd (omega arith)
+ones-set (a ∷ l) zero h z = rw z (omega arith)
+ones-set (a ∷ l) (suc i) h z = let e = ones-set l i (omega arith) z in omega arith
+
+module _ (l : List ℕ) (len : length l ≡ allMarks) (blank : (n : ℕ) → getD l n 0 ≡ 0) where
+  abbrev marked : List ℕ
+  marked = set (set l 17 1) 288 1
+
+  marked-length : length marked ≡ allMarks
+  marked-length = length-set (set l 17 1) 288 1 ∙ length-set l 17 1 ∙ len
+
+  at-last : getD marked 288 0 ≡ 1
+  at-last = getD-set-same (set l 17 1) 288 1 0 (omega (arith, length-set l 17 1, len))
+
+  at-other : (n : ℕ) → (n ≡ 288 → ⊥) → getD marked n 0 ≡ getD (set l 17 1) n 0
+  at-other n d = getD-set-other (set l 17 1) 288 n 1 0 d
+
+  marked-is : (n : ℕ) → Dec (n ≡ 17) → Dec (n ≡ 288) → (In marked n → EndMarks n) × (EndMarks n → In marked n) × (getD marked n 0 ≤ 1)
+  marked-is n p (yes e) = let q : getD marked n 0 ≡ 1 = ap (λ (i : ℕ). getD marked i 0) e ∙ at-last in (λ h. inr e, λ h. q, omega arith)
+  marked-is n (yes f) (no e) =
+      let q : getD marked n 0 ≡ 1 = at-other n e ∙ ap (λ (i : ℕ). getD (set l 17 1) i 0) f ∙ getD-set-same l 17 1 0 (omega (arith, len)) in
+      (λ h. inl f, λ h. q, omega arith)
+  marked-is n (no f) (no e) =
+      let q : getD marked n 0 ≡ 0 = at-other n e ∙ getD-set-other l 17 n 1 0 f ∙ blank n in
+      (λ h. absurd (omega arith), λ h. absurd (neither h), omega arith)
+    where
+      neither : EndMarks n → ⊥
+      neither (inl d) = f d
+      neither (inr d) = e d
+
+  marked-ones : ones marked ≡ ones l + 2
+  marked-ones =
+      let a = ones-set l 17 (omega (arith, len)) (blank 17) in
+      let b = ones-set (set l 17 1) 288 (omega (arith, length-set l 17 1, len)) (getD-set-other l 17 288 1 0 (λ d. omega arith) ∙ blank 288) in
+      omega arith
+
+  two-marks : (m : List ℕ) → length m ≡ allMarks → Bits m → ((n : ℕ) → (In m n → EndMarks n) × (EndMarks n → In m n)) → ones m ≡ ones l + 2
+  two-marks m k b h =
+      ap ones (same-marks m marked (k ∙ sym marked-length) b (λ n. is n .2) (λ n x. is n .1 (h n .0 x)) (λ n x. h n .1 (is n .0 x))) ∙ marked-ones
+    where
+      is : (n : ℕ) → (In marked n → EndMarks n) × (EndMarks n → In marked n) × (getD marked n 0 ≤ 1)
+      is n = marked-is n (ℕ-discrete n 17) (ℕ-discrete n 288)
+
+fresh-blank : (n : ℕ) → getD freshMarks n 0 ≡ 0
+unfolding freshMarks
+fresh-blank n = let b = fresh-form .markBits n in let d = zeroes-none allMarks n in omega (arith, b, d)
+
+fresh-ones : ones freshMarks ≡ 0
+unfolding freshMarks
+fresh-ones = ones-none allMarks
+
+-- THE SUM: gains less losses are the two marks that stand at the end.
+pub journal-sums : (cs : List Call) (b : Book) (m : List ℕ) → Chain freshBook freshMarks cs b m → records cs ≡ journal → allGains cs ≡ allLosses cs + 2
+journal-sums cs b m K e =
+    let D = demand-3 cs b m K in
+    let M : runs start (records cs) ≡ journal-end = ap (runs start) e ∙ journal-runs in
+    let two = two-marks freshMarks (fresh-form .marks) fresh-blank m (D .form .marks) (D .form .markBits)
+    (λ n. (λ h. subst (λ (x : State). Stands x n) M (D .marks n .0 h) EndMarks end-closed, λ h. D .marks n .1 (subst (λ (x : State). Stands x n) (sym M) (end-stands n h)))) in
+    let z = fresh-ones in
+    let s = D .sums in
+    omega arith
+
+-- THE ONE WAY: the second record, LI, loses nothing, and the sixth, WD, gains nothing.
+
+second-is : readRecord (76 ∷ 73 ∷ 0 ∷ 0 ∷ 0 ∷ 0 ∷ 0 ∷ 2 ∷ 2 ∷ []) ≡ got (LI 0 good) 9
+unfolding byteAt upto principal head readProperty readConcl readConds readWith readGrant readEntry readLicence readContent readRecord
+second-is = refl
+
+sixth-is : readRecord (87 ∷ 68 ∷ 0 ∷ 0 ∷ 0 ∷ 0 ∷ 0 ∷ 2 ∷ 2 ∷ []) ≡ got (WD 0 good) 9
+unfolding byteAt upto principal head readProperty readConcl readConds readWith readGrant readEntry readLicence readContent readRecord
+sixth-is = refl
+
+pub journal-one-way : (a b c d e f g : Call) (t : Book) (m : List ℕ) → Chain freshBook freshMarks (a ∷ b ∷ c ∷ d ∷ e ∷ f ∷ g ∷ []) t m →
+    records (a ∷ b ∷ c ∷ d ∷ e ∷ f ∷ g ∷ []) ≡ journal → NoLoss b × NoGain f
+unfolding records AllOneWay
+journal-one-way a b c d e f g t m K h =
+    let W = demand-3 (a ∷ b ∷ c ∷ d ∷ e ∷ f ∷ g ∷ []) t m K .oneWay in
+    let li : readRecord (b .record′) ≡ got (LI 0 good) 9 = ap (λ (l : List (List ℕ)). readRecord (getD l 1 [])) h ∙ second-is in
+    let wd : readRecord (f .record′) ≡ got (WD 0 good) 9 = ap (λ (l : List (List ℕ)). readRecord (getD l 5 [])) h ∙ sixth-is in
+    (subst (λ (o : Outcome Record). OneWay o b) li (W .1 .0), subst (λ (o : Outcome Record). OneWay o f) wd (W .1 .1 .1 .1 .1 .0))
+
+-- THE ANSWERS: Good(2) is not permitted at the third record, and permitted at the fifth.
+
+third-asks : step (runs start (take 2 journal)) (getD journal 2 []) ≡ record { next = first; says = asks 290; used = 5 }
+unfolding byteAt upto principal pack form head readProperty readPacked readIssue readConcl readConds readWith readGrant readEntry readLicence readQuery readContent readRecord written sameBytes same place has add number without hasLicence addLicence withoutLicence act step runs
+third-asks = refl
+
+fifth-asks : step (runs start (take 4 journal)) (getD journal 4 []) ≡ record { next = second; says = asks 290; used = 5 }
+unfolding byteAt upto principal pack form head readProperty readPacked readIssue readConcl readConds readWith readGrant readEntry readLicence readQuery readContent readRecord written sameBytes same place has add number without hasLicence addLicence withoutLicence act step runs
+fifth-asks = refl
+
+pub journal-answers : {a b c d e f g : Call} {t : Book} {m : List ℕ} → Chain freshBook freshMarks (a ∷ b ∷ c ∷ d ∷ e ∷ f ∷ g ∷ []) t m →
+    records (a ∷ b ∷ c ∷ d ∷ e ∷ f ∷ g ∷ []) ≡ journal → (c .gave .answer ≡ NotPermitted) × (e .gave .answer ≡ Permitted)
+unfolding records
+journal-answers (then s1 r1 n1 c1 (then s2 r2 n2 c2 (then s3 r3 n3 c3 (then s4 r4 n4 c4 (then s5 r5 n5 c5 K))))) h =
+    let third : step (runs start (s1 ∷ s2 ∷ [])) s3 ≡ record { next = first; says = asks 290; used = 5 } = ap (λ (l : List (List ℕ)). step (runs start (take 2 l)) (getD l 2 [])) h ∙ third-asks in
+    let fifth : step (runs start (s1 ∷ s2 ∷ s3 ∷ s4 ∷ [])) s5 ≡ record { next = second; says = asks 290; used = 5 } = ap (λ (l : List (List ℕ)). step (runs start (take 4 l)) (getD l 4 [])) h ∙ fifth-asks in (
+      demand-2 _ _ _ (then s1 r1 n1 c1 (then s2 r2 n2 c2 none)) s3 r3 n3 c3 290 (ap (λ (x : Step). x .says) third) .notPermitted .1 (subst (λ (x : Step). Lacking (x .next) 290) (sym third) first-lacks),
+      demand-2 _ _ _ (then s1 r1 n1 c1 (then s2 r2 n2 c2 (then s3 r3 n3 c3 (then s4 r4 n4 c4 none)))) s5 r5 n5 c5 290 (ap (λ (x : Step). x .says) fifth) .permitted .1 (subst (λ (x : Step). Stands (x .next) 290) (sym fifth) second-stands),
+    )

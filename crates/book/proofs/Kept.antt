@@ -1,0 +1,64 @@
+-- "A number is kept for the life of the book": whatever records follow, N only grows at its end.
+use Prim.Native.Nat.{ℕ, suc, _<_}
+use mathlib.Core.Path.{_≡_, refl, sym, ap, subst, _∙_}
+use mathlib.Core.Bool.{Bool, true, false, cond}
+use mathlib.Core.List.{List, [], _∷_, _++_}
+use native.Mathlib.Omega.{arith}
+use lib.ListN.{length}
+use Rattle.rows.specs.Written.{Grant, same}
+use Rattle.rows.specs.Numbering.{place, has}
+use Rattle.rows.specs.Form.{rowsOut}
+use Rattle.rows.proofs.Place.{has-lt}
+use Rattle.reader.specs.Bytes.{Outcome, got, refused}
+use Rattle.reader.specs.Records.{Record, TG, ST, LI, WD, QU, readRecord}
+use Rattle.reader.proofs.Fuse.{Ext, ext-refl, ext-trans}
+use Rattle.book.specs.declared.Book.{Book}
+use Rattle.book.specs.Machine.{State, start, acted, step}
+use Rattle.book.specs.Chains.{Call, Chain, freshBook, freshMarks, records, runs}
+use Rattle.book.proofs.Moving.{Moved, moved}
+use Rattle.book.proofs.Reached.{fresh-reached}
+use Rattle.book.proofs.Demand3.{after}
+
+step-grows : (M : State) (s : List ℕ) → Ext (M .N) (step M s .next .N)
+unfolding step
+step-grows M s = go (readRecord s) (moved M (readRecord s))
+  where
+    go : (o : Outcome Record) → Moved M o → Ext (M .N) (acted M o .next .N)
+    go (got (TG g) n) u = u .ext
+    go (got (ST g) n) u = u .ext
+    go (got (LI p g) n) u = u .ext
+    go (got (WD p g) n) u = u .ext
+    go (got (QU c) n) u = u .ext
+    go (refused k) u = u .ext
+
+-- Over every list of records N only grows at its end,
+pub grows : (ss : List (List ℕ)) (M : State) → Ext (M .N) (runs M ss .N)
+unfolding runs
+grows [] M = ext-refl (M .N)
+grows (s ∷ ss) M = ext-trans (step-grows M s) (grows ss (step M s .next))
+
+place-grows : (g : Grant) (N more : List Grant) → place g N < length N → place g (N ++ more) ≡ place g N
+unfolding place
+place-grows g [] more l = absurd (omega arith)
+place-grows g (h ∷ N) more l = go (same g h) (place-grows g N more) l
+  where
+    go : (t : Bool) → (place g N < length N → place g (N ++ more) ≡ place g N) → cond t 0 (suc (place g N)) < suc (length N) →
+        cond t 0 (suc (place g (N ++ more))) ≡ cond t 0 (suc (place g N))
+    go true f k = refl
+    go false f k = ap suc (f (omega arith))
+
+-- so a grant that has a number keeps it,
+pub number-kept : (ss : List (List ℕ)) (M : State) (g : Grant) → has g (M .N) ≡ true → place g (runs M ss .N) ≡ place g (M .N)
+number-kept ss M g e =
+    let x = grows ss M in
+    ap (place g) (x .is) ∙ place-grows g (M .N) (x .more) (has-lt g (M .N) e)
+
+-- and the rows of a book that calls reached stay the first of those that more calls leave.
+pub rows-kept : {b b′ : Book} {m m′ : List ℕ} {cs ds : List Call} → Chain freshBook freshMarks cs b m → Chain b m ds b′ m′ →
+    Ext (rowsOut (b .rows) (b .count)) (rowsOut (b′ .rows) (b′ .count))
+rows-kept {b} {b′} {cs = cs} {ds = ds} K L =
+    let A = after fresh-reached K .reached in
+    let B = after A L .reached in
+    let M = runs start (records cs) in
+    subst (λ (N : List Grant). Ext N (rowsOut (b′ .rows) (b′ .count))) (sym (A .shows .rows))
+    (subst (Ext (M .N)) (sym (B .shows .rows)) (grows (records ds) M))
