@@ -15,7 +15,7 @@ use Rattle.book.proofs.Keeping.{called-formed}
 use Rattle.book.proofs.Reached.{Reached, fresh-reached, reached-after}
 
 -- a call on a book in form can be had
-call-some : (b : Book) (m s : List ℕ) → BookForm b m → Called b m s (applied b m (numRecord s (tableOf b))) (marksApplied b m (numRecord s (tableOf b)))
+pub call-some : (b : Book) (m s : List ℕ) → BookForm b m → Called b m s (applied b m (numRecord s (tableOf b))) (marksApplied b m (numRecord s (tableOf b)))
 call-some b m s f = called-formed b m s (numRecord s (tableOf b)) _ _ f (reads-within s (tableOf b) _ (f .table .count) refl) refl refl
 
 pub record Some (b : Book) (m : List ℕ) (ss : List (List ℕ)) : Type 0 where

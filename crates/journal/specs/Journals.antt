@@ -4,7 +4,7 @@ use mathlib.Core.Path.{_≡_}
 use mathlib.Core.Bool.{cond}
 use mathlib.Core.Logic.{_↔_}
 use mathlib.Core.List.{List, [], _∷_, _++_}
-use lib.ListN.{length, drop}
+use lib.ListN.{length, drop, getD}
 use lib.Dec.{eqb}
 use Rattle.book.specs.declared.Book.{Book}
 use Rattle.book.specs.declared.Answer.{Answer}
@@ -65,29 +65,15 @@ pub record Steps (b : Book) (m s : List ℕ) (at n : ℕ) (r : Stepped) (m′ : 
   pub line : Holds (r .line) (lineOf n (drop at s) (r .answered .answer))
   pub next : r .next ≡ nextPlace (length s) at (r .answered .used)
 
--- The calls of the first records of a journal s, from a fresh book and fresh marks, to the book and marks that the last one left
--- and what is left to read.
-pub data Begun (s : List ℕ) : List Call → Book → List ℕ → List ℕ → Type 0 where
-  fresh : Begun s [] freshBook freshMarks s
-  after : {cs : List Call} {b : Book} {m : List ℕ} (t : List ℕ) (r : Answered) (n : List ℕ) → Begun s cs b m t → 0 < length t →
-      Called b m t r n →
-      Begun s (cs ++ (record { record′ = t; before = b; marks = m; gave = r; left = n } ∷ [])) (r .book) n (restAfter (r .used) t)
-
--- The line that follows k lines of the listing of s: "Refusal 8 is the one line `refused 8`"; else "each record gives a line
--- with its number from 1", and after all records "the last line has the count of record lines and of marks standing".
-pub data LineAfter (s : List ℕ) (k : ℕ) : List ℕ → Type 0 where
-  whole : 65536 < length s → k ≡ 0 → LineAfter s k (refusedLine 8)
-  one : {cs : List Call} {b : Book} {m : List ℕ} (t : List ℕ) (r : Answered) (n : List ℕ) → length s < 65537 → Begun s cs b m t →
-      length cs ≡ k → 0 < length t → Called b m t r n → LineAfter s k (lineOf (k + 1) t (r .answer))
-  last : {cs : List Call} {b : Book} (m : List ℕ) → length s < 65537 → Begun s cs b m [] → length cs ≡ k → LineAfter s k (endOf k m)
-
--- DEMANDED of a text that is written after k lines of the listing of s: it is the line that follows them.
+-- DEMANDED of a text that is written after k lines: it is line k, counted from 0, of the listing of s. (A journal has one listing:
+-- theorems `listed-some` and `listed-only`.)
 pub record Follows (s : List ℕ) (k : ℕ) (t : Text) : Type 0 where
-  pub line : List ℕ
-  pub holds : Holds t line
-  pub follows : LineAfter s k line
+  pub lines : List (List ℕ)
+  pub listed : Listed s lines
+  pub within : k < length lines
+  pub holds : Holds t (getD lines k [])
 
--- THE PROMISE of listing s: there is a listing, and as many lines as it has were written.
+-- THE PROMISE of listing s: so many lines were written, one after another, as its listing has.
 pub record Ran (s : List ℕ) (k : ℕ) : Type 0 where
   pub lines : List (List ℕ)
   pub listed : Listed s lines

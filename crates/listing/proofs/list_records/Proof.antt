@@ -44,13 +44,13 @@ end-line-requires : tie.Need-end-line-requires Inv-loop μ-loop
 end-line-requires c κs = search needs
 
 write-requires-2 : tie.Need-write-requires-2 Inv-loop μ-loop
-write-requires-2 c κs = (omega (arith, (c .before .before .before .loop) .inv .0 .few, (c .before .before .before .loop) .inv .0 .within, (c .before .before .before .before .before .before .before .pre) .0), end-follows ((c .before .before .before .before .before .before .before .args) .s .now) ((c .before .before .before .loop) .at) ((c .before .before .before .loop) .o .lines) ((c .before .before .before .loop) .inv .0) ((c .before .before .loop-test) .left) _ ((c .before .before .before .before .before .before .before .pre) .0) ((c .end-line) .ensures))
+write-requires-2 c κs = (omega (arith, (c .before .before .before .loop) .inv .0 .few, (c .before .before .before .loop) .inv .0 .within, (c .before .before .before .before .before .before .before .pre) .0), end-follows ((c .before .before .before .before .before .before .before .args) .s .now) ((c .before .before .before .loop) .at) ((c .before .before .before .loop) .o .lines) ((c .before .before .before .loop) .inv .0) ((c .before .before .loop-test) .left) ((c .before .before .before .before .before .before .before .pre) .0) _ ((c .end-line) .ensures))
 
 same-length : tie.Need-same-length Inv-loop μ-loop
 same-length c = search needs
 
 returns : tie.Need-returns Inv-loop μ-loop
-returns c = read-ran ((c .before .before .before .before .before .before .before .before .args) .s .now) ((c .before .before .before .before .loop) .at) ((c .before .before .before .before .loop) .o .lines) ((c .before .before .before .before .loop) .inv .0) ((c .before .before .before .loop-test) .left) _ ((c .before .before .before .before .before .before .before .before .pre) .0) ((c .write2) .ensures .0)
+returns c = read-ran ((c .before .before .before .before .before .before .before .before .args) .s .now) ((c .before .before .before .before .loop) .at) ((c .before .before .before .before .loop) .o .lines) ((c .before .before .before .before .loop) .inv .0) ((c .before .before .before .loop-test) .left) ((c .before .before .before .before .before .before .before .before .pre) .0) _ ((c .write2) .ensures .0)
 
 pub list-records-spec : {M : Type 1} → statement M
 list-records-spec =

@@ -1,0 +1,116 @@
+-- Every journal has a listing, and one only; and demand 3 holds of its calls.
+use Prim.Native.Nat.{ℕ, zero, suc, _+_, _≤_, _<_}
+use mathlib.Core.Path.{_≡_, refl, sym, ap, _∙_, subst}
+use mathlib.Core.List.{List, [], _∷_, _++_}
+use native.Mathlib.Omega.{arith}
+use native.Mathlib.Decide.{ℕ-discrete, decLt}
+use borrow.Author.Tests.{eq-eqb, ne-eqb}
+use lib.ListN.{length, drop, getD, length-drop}
+use Rattle.book.specs.declared.Book.{Book}
+use Rattle.book.specs.declared.Answered.{Answered}
+use Rattle.book.specs.Machine.{State}
+use Rattle.book.specs.Chains as chains
+use Rattle.book.specs.Chains.{Call, Chain, freshBook, freshMarks}
+use Rattle.book.specs.Demands.{Demand3}
+use Rattle.book.proofs.Demand3.{demand-3}
+use Rattle.book.proofs.Existence.{call-some}
+use Rattle.book.proofs.Reached.{Reached, fresh-reached, reached-after}
+use Rattle.book.proofs.Unique.{no-choice}
+use Rattle.journal.specs.declared.text.Text.{Text}
+use Rattle.journal.specs.Journals.{restAfter, Calls, ended, then, Listed, over, read, recordLines, Follows}
+use Rattle.journal.specs.Lines.{lineOf, endOf}
+use Rattle.journal.specs.Texts.{Holds}
+
+-- the calls of a journal are a list of calls, each on the book and marks that the last one left
+calls-chain : {b b′ : Book} {m m′ s : List ℕ} {cs : List Call} → Calls b m s cs b′ m′ → Chain b m cs b′ m′
+calls-chain ended = chains.none
+calls-chain (then s r n l h x) = chains.then s r n h (calls-chain x)
+
+-- DEMAND 3 holds of the calls of every journal.
+pub calls-demand-3 : {s m : List ℕ} {cs : List Call} {b : Book} → Calls freshBook freshMarks s cs b m → Demand3 cs b m
+calls-demand-3 {s} {m} {cs} {b} x = demand-3 cs b m (calls-chain x)
+
+-- a call leaves less to read
+
+pub rest-none : (used : ℕ) (t : List ℕ) → used ≡ 0 → restAfter used t ≡ []
+unfolding restAfter
+rest-none used t e = rw (eq-eqb used 0 e)
+
+pub rest-some : (used : ℕ) (t : List ℕ) → (used ≡ 0 → ⊥) → restAfter used t ≡ drop used t
+unfolding restAfter
+rest-some used t d = rw (ne-eqb used 0 d)
+
+rest-less : (used : ℕ) (t : List ℕ) (k : ℕ) → length t ≤ suc k → length (restAfter used t) ≤ k
+rest-less used t k l = go (ℕ-discrete used 0)
+  where
+    go : Dec (used ≡ 0) → length (restAfter used t) ≤ k
+    go (yes e) = omega (arith, ap (length {A = ℕ}) (rest-none used t e))
+    go (no d) = omega (arith, ap (length {A = ℕ}) (rest-some used t d), length-drop used t)
+
+-- Calls of bytes that are left to read.
+pub record SomeCalls (b : Book) (m t : List ℕ) : Type 0 where
+  pub calls : List Call
+  pub book : Book
+  pub marks : List ℕ
+  pub made : Calls b m t calls book marks
+
+calls-upto : (k : ℕ) {b : Book} {m : List ℕ} {M : State} → Reached b m M → (t : List ℕ) → length t ≤ k → SomeCalls b m t
+calls-upto zero {b} {m} R [] l = record { calls = []; book = b; marks = m; made = ended }
+calls-upto zero R (x ∷ t) l = absurd (omega arith)
+calls-upto (suc k) {b} {m} R [] l = record { calls = []; book = b; marks = m; made = ended }
+calls-upto (suc k) {b} {m} R (x ∷ t) l =
+    let C = call-some b m (x ∷ t) (R .form) in
+    let K = calls-upto k (reached-after R C) (restAfter _ (x ∷ t)) (rest-less _ (x ∷ t) k l) in
+    record { calls = _; book = K .book; marks = K .marks; made = then (x ∷ t) _ _ (omega arith) C (K .made) }
+
+pub calls-from : {b : Book} {m : List ℕ} {M : State} → Reached b m M → (t : List ℕ) → SomeCalls b m t
+calls-from R t = calls-upto (length t) R t (omega arith)
+
+-- EVERY JOURNAL has a listing,
+pub listed-some : (s : List ℕ) → (ls : List (List ℕ)) × Listed s ls
+listed-some s = go (decLt 65536 (length s))
+  where
+    go : Dec (65536 < length s) → (ls : List (List ℕ)) × Listed s ls
+    go (yes l) = (_, over l)
+    go (no l) = let K = calls-from fresh-reached s in (_, read (K .calls) (K .book) (K .marks) (omega arith) (K .made))
+
+-- two calls of the same bytes, from the same book and marks, are the same
+calls-only : {b b₁ b₂ : Book} {m m₁ m₂ s : List ℕ} {cs ds : List Call} → Calls b m s cs b₁ m₁ → Calls b m s ds b₂ m₂ → (cs ≡ ds) × (b₁ ≡ b₂) × (m₁ ≡ m₂)
+calls-only ended ended = (refl, refl, refl)
+calls-only ended (then s r n l h x) = absurd (omega arith)
+calls-only (then s r n l h x) ended = absurd (omega arith)
+calls-only {b} {b₁} {b₂} {m} {m₁} {m₂} (then {cs = cs} s r n l h x) (then {cs = ds} t r′ n′ l′ h′ y) =
+    let e = no-choice b m s r r′ n n′ h h′ in
+    let z : Calls (r .book) n (restAfter (r .used) s) ds b₂ m₂ =
+    subst (λ (k : Answered). Calls (k .book) n (restAfter (k .used) s) ds b₂ m₂) (sym (e .0))
+    (subst (λ (k : List ℕ). Calls (r′ .book) k (restAfter (r′ .used) s) ds b₂ m₂) (sym (e .1)) y) in
+    let w = calls-only x z in
+    (λ i. record { record′ = s; before = b; marks = m; gave = e .0 i; left = e .1 i } ∷ w .0 i, w .1, w .2)
+
+-- and ONE ONLY.
+pub listed-only : (s : List ℕ) (ls ms : List (List ℕ)) → Listed s ls → Listed s ms → ls ≡ ms
+listed-only s ls ms (over l) (over k) = refl
+listed-only s ls ms (over l) (read cs b m k x) = absurd (omega arith)
+listed-only s ls ms (read cs b m k x) (over l) = absurd (omega arith)
+listed-only s ls ms (read cs b m l x) (read ds b′ m′ k y) =
+    let e = calls-only x y in
+    λ i. recordLines 1 (e .0 i) ++ (endOf (length (e .0 i)) (e .2 i) ∷ [])
+
+-- So a text that is written after k lines is line k of the listing.
+pub follows-listed : (s : List ℕ) (ls : List (List ℕ)) (k : ℕ) (t : Text) → Listed s ls → Follows s k t → Holds t (getD ls k [])
+follows-listed s ls k t L F = subst (λ (x : List (List ℕ)). Holds t (getD x k [])) (listed-only s (F .lines) ls (F .listed) L) (F .holds)
+
+-- each call gives a line
+
+pub lines-count : (n : ℕ) (cs : List Call) → length (recordLines n cs) ≡ length cs
+unfolding recordLines
+lines-count n [] = refl
+lines-count n (c ∷ cs) = let e = lines-count (n + 1) cs in omega arith
+
+pub line-at : (j : ℕ) (cs : List Call) (c : Call) (ds : List Call) (ls : List (List ℕ)) →
+    getD (recordLines j (cs ++ (c ∷ ds)) ++ ls) (length cs) [] ≡ lineOf (j + length cs) (c .record′) (c .gave .answer)
+unfolding recordLines
+line-at j [] c ds ls = let e : j ≡ j + 0 = omega arith in ap (λ (k : ℕ). lineOf k (c .record′) (c .gave .answer)) e
+line-at j (d ∷ cs) c ds ls =
+    let e : j + 1 + length cs ≡ j + suc (length cs) = omega arith in
+    line-at (j + 1) cs c ds ls ∙ ap (λ (k : ℕ). lineOf k (c .record′) (c .gave .answer)) e
