@@ -1,7 +1,6 @@
 -- Document 01, "Sorts and statement numbers".
-use mathlib.Core.Bool.{true}
+use mathlib.Core.Path.{_≡_}
 use Prim.Native.Nat.{ℕ, _+_, _*_, _<_}
-use Rattle.sorts.specs.declared.Prin.{Prin}
 use Rattle.sorts.specs.declared.Res.{Res}
 use Rattle.sorts.specs.declared.Res.the-variants.{Issue, Run, Export}
 use Rattle.sorts.specs.declared.Concl.{Concl}
@@ -29,23 +28,10 @@ abbrev pub numberOf : Concl → ℕ
 numberOf (Property k p) = 144 * p .0 + k
 numberOf (Perm p r) = 144 * p .0 + slotOf r
 
--- "Mark 2,304 + 2,304 × s + c says that principal s said c."
+-- "Mark c says that conclusion c is true. Mark 2,304 + 2,304 × s + c says that principal s said c." So the mark of a truth is its
+-- number, and the rules speak of marks through `numberOf` and this:
 abbrev pub saidMark : ℕ → ℕ → ℕ
 saidMark s c = 2304 + 2304 * s + c
-
--- A statement is what one mark says: that a conclusion is true, or that a principal said it.
-pub data Statement : Type 0 where
-  truth : Concl → Statement
-  said : Prin → Concl → Statement
-
-abbrev pub ClosedStatement : Statement → Type 0
-ClosedStatement (truth c) = ClosedConcl c
-ClosedStatement (said s c) = (s .0 < 16) × ClosedConcl c
-
--- "Mark c says that conclusion c is true. Mark 2,304 + 2,304 × s + c says that principal s said c."
-abbrev pub markOf : Statement → ℕ
-markOf (truth c) = numberOf c
-markOf (said s c) = saidMark (s .0) (numberOf c)
 
 -- "So there are 39,168 marks."
 abbrev pub conclusions : ℕ
@@ -53,3 +39,10 @@ conclusions = 2304
 
 abbrev pub allMarks : ℕ
 allMarks = 39168
+
+-- "A statement, which is what one mark says": that a closed conclusion is true, or that a principal said it.
+abbrev pub Truth : ℕ → Type 0
+Truth n = (c : Concl) × ClosedConcl c × (numberOf c ≡ n)
+
+abbrev pub Saying : ℕ → Type 0
+Saying n = (s : ℕ) × (c : Concl) × (s < 16) × ClosedConcl c × (saidMark s (numberOf c) ≡ n)
