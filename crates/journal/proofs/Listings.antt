@@ -71,7 +71,7 @@ pub listed-some : (s : List ℕ) → (ls : List (List ℕ)) × Listed s ls
 listed-some s = go (decLt 65536 (length s))
   where
     go : Dec (65536 < length s) → (ls : List (List ℕ)) × Listed s ls
-    go (yes l) = (_, over l)
+    go (yes l) = (_, over (omega arith))
     go (no l) = let K = calls-from fresh-reached s in (_, read (K .calls) (K .book) (K .marks) (omega arith) (K .made))
 
 -- two calls of the same bytes, from the same book and marks, are the same

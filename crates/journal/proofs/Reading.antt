@@ -110,7 +110,7 @@ module _ (s : List ℕ) {b : Book} {m : List ℕ} (at n : ℕ) (R : Read s b m a
         }
 
     -- its line is the one after those before
-    pub step-follows : length s < 65537 → Follows s n (r .line)
+    pub step-follows : length s ≤ 65536 → Follows s n (r .line)
     step-follows h =
         let K = calls-from (read-step .reached) (drop (r .next) s) in
         let cs = R .calls ++ (this ∷ K .calls) in
@@ -125,7 +125,7 @@ module _ (s : List ℕ) {b : Book} {m : List ℕ} (at n : ℕ) (R : Read s b m a
               ap (λ (k : ℕ). lineOf k (drop at s) (r .answered .answer)) (omega (arith, R .count)))) (S .line);
         }
 
-  module _ (l : length s ≤ at) (h : length s < 65537) where
+  module _ (l : length s ≤ at) (h : length s ≤ 65536) where
     -- at the end of the journal the lines are the listing
     listing : Listed s (recordLines 1 (R .calls) ++ (endOf (length (R .calls)) m ∷ []))
     listing =
@@ -155,7 +155,7 @@ module _ (s : List ℕ) {b : Book} {m : List ℕ} (at n : ℕ) (R : Read s b m a
 -- a journal that is too long is refused whole
 pub over-follows : (s : List ℕ) (k : ℕ) (t : Text) → 65536 < length s → k ≡ 0 → Holds t (refusedLine 8) → Follows s k t
 over-follows s k t l e h =
-    record { lines = _; listed = over l; within = omega (arith, e); holds = subst (λ (i : ℕ). Holds t (getD (refusedLine 8 ∷ []) i [])) (sym e) h }
+    record { lines = _; listed = over (omega arith); within = omega (arith, e); holds = subst (λ (i : ℕ). Holds t (getD (refusedLine 8 ∷ []) i [])) (sym e) h }
 
 pub over-ran : (s : List ℕ) (k : ℕ) → 65536 < length s → k ≡ 1 → Ran s k
-over-ran s k l e = record { lines = refusedLine 8 ∷ []; listed = over l; count = sym e }
+over-ran s k l e = record { lines = refusedLine 8 ∷ []; listed = over (omega arith); count = sym e }

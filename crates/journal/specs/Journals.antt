@@ -51,7 +51,7 @@ recordLines n (c ∷ cs) = lineOf n (c .record′) (c .gave .answer) ∷ recordL
 -- records, from a fresh book, and the last line.
 pub data Listed (s : List ℕ) : List (List ℕ) → Type 0 where
   over : 65536 < length s → Listed s (refusedLine 8 ∷ [])
-  read : (cs : List Call) (b : Book) (m : List ℕ) → length s < 65537 → Calls freshBook freshMarks s cs b m →
+  read : (cs : List Call) (b : Book) (m : List ℕ) → length s ≤ 65536 → Calls freshBook freshMarks s cs b m →
       Listed s (recordLines 1 cs ++ (endOf (length cs) m ∷ []))
 
 -- Where the next record starts, of a journal of len bytes.

@@ -101,7 +101,7 @@ fn read_some(buf: &mut [u8], i: Input) -> Input
 // Reads until buf is full, the input ends or a read fails. A journal that is too long is seen by its first byte too many.
 fn read_all(buf: &mut [u8]) -> Input
     requires { ⌜ 65536 < length (now buf) ⌝ }
-    ensures { λ r. ⌜ Counts (r .n) (now (buf .exit)) ⌝ }
+    ensures { λ r. ⌜ Counts (r .n) (now (buf .exit)) × (r .open ≡ false) ⌝ }
 {
     let mut i = Input {
         n: 0,
@@ -125,7 +125,8 @@ fn write(o: Output, s: &[u8], line: Text) -> Output
     let lines = o.lines + 1;
     let bytes = line.bytes;
     let n = line.len;
-    if !o.open {
+    let open = o.open;
+    if !open {
         return Output { lines, open: false };
     }
     let open = io::write_all(STDOUT_FILENO, &bytes[..n]);
@@ -134,7 +135,7 @@ fn write(o: Output, s: &[u8], line: Text) -> Output
 
 // Reads a journal s record by record, from a fresh book, and writes a line for each, and the last line.
 fn list_records(s: &[u8], marks: &mut [u8]) -> Output
-    requires { ⌜ (length (now s) < 65537) × (now marks ≡ freshMarks) ⌝ }
+    requires { ⌜ (length (now s) ≤ 65536) × (now marks ≡ freshMarks) ⌝ }
     ensures { λ r. ⌜ Ran (now (s .entry)) (r .lines) ⌝ }
 {
     let mut b = Book::new();
@@ -154,9 +155,9 @@ fn list_records(s: &[u8], marks: &mut [u8]) -> Output
     write(o, s, lines::end_line(o.lines, marks))
 }
 
-// The listing of the bytes that were read, with no failure.
+// The listing of the bytes that were read, to the end of the input or of their room, with no failure.
 fn list(i: Input, bytes: &[u8], marks: &mut [u8]) -> Output
-    requires { ⌜ (i .failed ≡ false) × Counts (i .n) (now bytes) × (now marks ≡ freshMarks) ⌝ }
+    requires { ⌜ (i .open ≡ false) × (i .failed ≡ false) × Counts (i .n) (now bytes) × (now marks ≡ freshMarks) ⌝ }
     ensures { λ r. ⌜ Ran (take (i .n) (now (bytes .entry))) (r .lines) ⌝ }
 {
     let n = i.n;
@@ -178,8 +179,8 @@ fn main() {
         io::write_all(STDERR_FILENO, b"listing: reading failed\n");
         return;
     }
-    let o = list(i, &bytes, &mut marks);
-    if !o.open {
+    let written = list(i, &bytes, &mut marks).open;
+    if !written {
         io::write_all(STDERR_FILENO, b"listing: writing failed\n");
     }
 }

@@ -32,7 +32,7 @@ slice-aggregate-list-2 c = search needs
 
 list-requires : tie.Need-list-requires
 unfolding freshMarks
-list-requires c κs = ((c .before .before .if1) .left, search needs, refl)
+list-requires c κs = (search needs, (c .before .before .if1) .left, search needs, refl)
 
 slice-aggregate-write-all-2 : tie.Need-slice-aggregate-write-all-2
 slice-aggregate-write-all-2 c = search needs

@@ -18,16 +18,16 @@ returns : tie.Need-returns
 returns c = search needs
 
 array-share-prefix-bytes : tie.Need-array-share-prefix-bytes
-array-share-prefix-bytes c = let h : length ((c .before .before .before .before .before .args) .line .bytes) ≡ 64 = search needs in omega (arith, h, (c .before .before .before .before .before .pre) .1 .holds .fits)
+array-share-prefix-bytes c = let h : length ((c .before .before .before .before .args) .line .bytes) ≡ 64 = search needs in omega (arith, h, (c .before .before .before .before .pre) .1 .holds .fits)
 
 slice-aggregate-write-all : tie.Need-slice-aggregate-write-all
-slice-aggregate-write-all c = let h : length ((c .before .before .before .before .before .before .args) .line .bytes) ≡ 64 = search needs in let l : (c .before .before .before .before .before .before .args) .line .len ≤ length ((c .before .before .before .before .before .before .args) .line .bytes) = omega (arith, h, (c .before .before .before .before .before .before .pre) .1 .holds .fits) in sym (length-take-le ((c .before .before .before .before .before .before .args) .line .len) ((c .before .before .before .before .before .before .args) .line .bytes) l)
+slice-aggregate-write-all c = let h : length ((c .before .before .before .before .before .args) .line .bytes) ≡ 64 = search needs in let l : (c .before .before .before .before .before .args) .line .len ≤ length ((c .before .before .before .before .before .args) .line .bytes) = omega (arith, h, (c .before .before .before .before .before .pre) .1 .holds .fits) in sym (length-take-le ((c .before .before .before .before .before .args) .line .len) ((c .before .before .before .before .before .args) .line .bytes) l)
 
 write-all-requires : tie.Need-write-all-requires
 write-all-requires c κs = search needs
 
 returns-2 : tie.Need-returns-2
-returns-2 c = (search needs, λ e. absurd (not-shut ((c .before .before .before .before .before .before .before .args) .o .«open») e ((c .before .before .if1) .left)))
+returns-2 c = (search needs, λ e. absurd (not-shut ((c .before .before .before .before .before .before .args) .o .«open») e ((c .before .before .if1) .left)))
 
 pub write-spec : {M : Type 1} → statement M
 write-spec =
