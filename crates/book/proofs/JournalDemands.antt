@@ -30,6 +30,7 @@ use Rattle.book.specs.Counts.{ones}
 use Rattle.book.specs.Chains.{freshBook, freshMarks, Call, Chain, none, then, records, runs, allGains, allLosses}
 use Rattle.book.specs.Demands.{Stands, Lacking, NoLoss, NoGain, OneWay, AllOneWay}
 use Rattle.book.proofs.Balance.{ones-none}
+use Rattle.book.proofs.Existence.{chain-some}
 use Rattle.book.proofs.Reached.{fresh-form}
 use Rattle.book.proofs.Demand2.{demand-2}
 use Rattle.book.proofs.Demand3.{demand-3}
@@ -252,3 +253,32 @@ journal-answers (then s1 r1 n1 c1 (then s2 r2 n2 c2 (then s3 r3 n3 c3 (then s4 r
       demand-2 _ _ _ (then s1 r1 n1 c1 (then s2 r2 n2 c2 none)) s3 r3 n3 c3 290 (ap (λ (x : Step). x .says) third) .notPermitted .1 (subst (λ (x : Step). Lacking (x .next) 290) (sym third) first-lacks),
       demand-2 _ _ _ (then s1 r1 n1 c1 (then s2 r2 n2 c2 (then s3 r3 n3 c3 (then s4 r4 n4 c4 none)))) s5 r5 n5 c5 290 (ap (λ (x : Step). x .says) fifth) .permitted .1 (subst (λ (x : Step). Stands (x .next) 290) (sym fifth) second-stands),
     )
+
+-- There are such calls: chain-some has them, and calls with these records are seven.
+pub record Seven : Type 0 where
+  pub a : Call
+  pub b : Call
+  pub c : Call
+  pub d : Call
+  pub e : Call
+  pub f : Call
+  pub g : Call
+  pub book : Book
+  pub marks : List ℕ
+  pub chain : Chain freshBook freshMarks (a ∷ b ∷ c ∷ d ∷ e ∷ f ∷ g ∷ []) book marks
+  pub same : records (a ∷ b ∷ c ∷ d ∷ e ∷ f ∷ g ∷ []) ≡ journal
+
+seven : (cs : List Call) (t : Book) (m : List ℕ) → Chain freshBook freshMarks cs t m → records cs ≡ journal → Seven
+unfolding records
+seven [] t m K h = absurd (omega (arith, ap length h))
+seven (a ∷ []) t m K h = absurd (omega (arith, ap length h))
+seven (a ∷ b ∷ []) t m K h = absurd (omega (arith, ap length h))
+seven (a ∷ b ∷ c ∷ []) t m K h = absurd (omega (arith, ap length h))
+seven (a ∷ b ∷ c ∷ d ∷ []) t m K h = absurd (omega (arith, ap length h))
+seven (a ∷ b ∷ c ∷ d ∷ e ∷ []) t m K h = absurd (omega (arith, ap length h))
+seven (a ∷ b ∷ c ∷ d ∷ e ∷ f ∷ []) t m K h = absurd (omega (arith, ap length h))
+seven (a ∷ b ∷ c ∷ d ∷ e ∷ f ∷ g ∷ []) t m K h = record { a = a; b = b; c = c; d = d; e = e; f = f; g = g; book = t; marks = m; chain = K; same = h }
+seven (a ∷ b ∷ c ∷ d ∷ e ∷ f ∷ g ∷ x ∷ cs) t m K h = absurd (omega (arith, ap length h))
+
+pub journal-seven : Seven
+journal-seven = let K = chain-some journal in seven (K .calls) (K .book) (K .marks) (K .chain) (K .same)

@@ -3,6 +3,8 @@ use Prim.Native.Nat.{ℕ, _<_, _≤_}
 use mathlib.Core.Path.{_≡_, refl, sym, ap, subst, _∙_}
 use mathlib.Core.Bool.{Bool, true, false, cond}
 use mathlib.Core.List.{List}
+use mathlib.Core.Logic.{_↔_}
+use mathlib.Core.Option.{some}
 use native.Mathlib.Omega.{arith}
 use lib.ListN.{length, getD, List·getD-append}
 use lib.Dec.{ltb, leb}
@@ -27,13 +29,15 @@ use Rattle.reader.specs.declared.grants.ConclReading.{ConclReading}
 use Rattle.reader.specs.declared.records.Kind.{Kind}
 use Rattle.reader.specs.declared.records.Standing.{Standing}
 use Rattle.reader.specs.declared.records.Standing.the-variants.{Trusted, Issued}
+use Rattle.reader.specs.declared.records.Request.{Request}
 use Rattle.reader.specs.declared.records.Request.the-variants.{Enter, Remove, Query}
+use Rattle.reader.specs.declared.records.Found.{Found}
 use Rattle.reader.specs.declared.records.Found.the-variants.{Asks, Full, Unknown, Refused}
 use Rattle.reader.specs.declared.records.Reading.{Reading}
 use Rattle.reader.specs.Bytes.{Outcome, got, refused, andThen, byteAt, upto}
 use Rattle.reader.specs.Grants.{readGrant, readConcl}
 use Rattle.reader.specs.Records.{Record, TG, ST, LI, WD, QU, letters, readEntry, readLicence, readQuery, readContent, readRecord, nothingDeclared}
-use Rattle.reader.specs.Requests.{fits, entering, removing, foundOf, numberedBy, numbers, Reads}
+use Rattle.reader.specs.Requests.{numberFound, fits, entering, removing, foundOf, numberedBy, numbers, TurnedBack, Reads}
 use Rattle.reader.specs.inner.OnePass.{onOutcome, onGrant, onConcl, numGrant, numConcl}
 use Rattle.reader.specs.inner.OneRecord.{starting, finished, kindAt, markAt, noR, entryOf, numEntry, removalOf, numRemoval, queryOf, numQuery, numLicence, numContent, numRecord}
 use Rattle.reader.proofs.Fuse.{FuseG, FuseC, fuse-grant, fuse-concl, number-ext}
@@ -288,6 +292,22 @@ record-keeps s t = go (markAt s)
     go (got k n) e = content-keeps k s t e
     go (refused k) e = refl
 
+-- The number of what is found.
+
+module _ (k : ℕ) where
+  asked-or : (t : Bool) (q : Request) (n : ℕ) (f : Found) (j : ℕ) → numberFound f ≡ some j → (numberFound (cond t (Asks q n) f) ≡ some k) ↔ ((t ≡ false) × (k ≡ j))
+  asked-or true q n f j e = (λ h. let z : _≡_ {A = ℕ} 0 1 = cc in absurd (omega arith), λ h. absurd (no-true (sym (h .0))))
+  asked-or false q n f j e = (λ h. let d : some j ≡ some k = sym e ∙ h in let z : j ≡ k = cc in (refl, sym z), λ h. e ∙ ap some (sym (h .1)))
+
+  found-number : (N : List Grant) (o : Outcome Record) → (numberFound (foundOf N o) ≡ some k) ↔ TurnedBack N o k
+  unfolding foundOf
+  found-number N (refused j) = (λ h. let d : j ≡ k = cc in d, λ h. ap some h)
+  found-number N (got (TG g) n) = asked-or (fits (number g N)) _ n (Full n) 6 refl
+  found-number N (got (ST g) n) = asked-or (has g N) _ n (Unknown n) 7 refl
+  found-number N (got (LI p g) n) = asked-or (fits (number g N)) _ n (Full n) 6 refl
+  found-number N (got (WD p g) n) = asked-or (has g N) _ n (Unknown n) 7 refl
+  found-number N (got (QU c) n) = asked-or (fits (numberConcl c N)) _ n (Full n) 6 refl
+
 -- The promise, by whether the count is one of a book.
 
 pub reads-over : (s : List ℕ) (t : Table) → 64 < t .count → Reads s t (noR t 9)
@@ -295,6 +315,7 @@ reads-over s t l = record {
   over = λ h. refl;
   found = λ f. let c = f .count in absurd (omega arith);
   rows = λ f. let c = f .count in absurd (omega arith);
+  refusals = λ f. let c = f .count in absurd (omega arith);
   form = λ f. f;
   kept = λ e. refl;
   within = λ h. absurd (omega arith);
@@ -306,6 +327,9 @@ reads-within s t r l e =
       over = λ h. absurd (omega arith);
       found = λ f. record-right t f s .found;
       rows = λ f. record-right t f s .rows;
+      refusals = λ f k.
+          subst (λ (x : Found). (numberFound x ≡ some k) ↔ TurnedBack (rowsOut (t .rows) (t .count)) (readRecord s) k) (sym (record-right t f s .found))
+          (found-number k (rowsOut (t .rows) (t .count)) (readRecord s));
       form = λ f. record-right t f s .form;
       kept = record-keeps s t;
       within = λ h. refl;

@@ -5,6 +5,7 @@ use mathlib.Core.Path.{_≡_}
 use mathlib.Core.Bool.{Bool, true, false, cond}
 use mathlib.Core.List.{List}
 use mathlib.Core.Option.{Option, none, some}
+use mathlib.Core.Logic.{_↔_}
 use lib.ListN.{length}
 use lib.Dec.{leb}
 use Rattle.rows.specs.declared.Table.{Table}
@@ -74,13 +75,24 @@ numbers (Full n) = false
 numbers (Unknown n) = false
 numbers (Refused k) = false
 
+-- When a record is turned back where the grants N are numbered, by what was read: the fault's own number; 6 "the grants that the
+-- record would number and those in N exceed 64"; 7 for the removal of a grant that has no number.
+abbrev pub TurnedBack : List Grant → Outcome Record → ℕ → Type 0
+TurnedBack N (refused j) k = j ≡ k
+TurnedBack N (got (TG g) n) k = (fits (number g N) ≡ false) × (k ≡ 6)
+TurnedBack N (got (ST g) n) k = (has g N ≡ false) × (k ≡ 7)
+TurnedBack N (got (LI p g) n) k = (fits (number g N) ≡ false) × (k ≡ 6)
+TurnedBack N (got (WD p g) n) k = (has g N ≡ false) × (k ≡ 7)
+TurnedBack N (got (QU c) n) k = (fits (numberConcl c N) ≡ false) × (k ≡ 6)
+
 -- THE PROMISE of the reader, over any table: a count above 64 is out of form, 9; over a table in form the answer and the
--- rows, written out, are what the two functions say, and the table left is in form; a record that gives no numbers leaves the
--- table as it was, in form or not. Over a table out of form with a count up to 64 it is the one pass over the rows as they are.
+-- rows, written out, are what the two functions say, each number under its condition and no other, and the table left is in
+-- form; a record that gives no numbers leaves the table as it was, in form or not. Over a table out of form with a count up to 64 it is the one pass over the rows as they are.
 pub record Reads (s : List ℕ) (t : Table) (r : Reading) : Type 0 where
   pub over : 64 < t .count → r ≡ record { table = t; found = Refused 9 }
   pub found : TableForm t → r .found ≡ foundOf (rowsOut (t .rows) (t .count)) (readRecord s)
   pub rows : TableForm t → rowsOut (r .table .rows) (r .table .count) ≡ numberedBy (rowsOut (t .rows) (t .count)) (readRecord s)
+  pub refusals : TableForm t → (k : ℕ) → (numberFound (r .found) ≡ some k) ↔ TurnedBack (rowsOut (t .rows) (t .count)) (readRecord s) k
   pub form : TableForm t → TableForm (r .table)
   pub kept : numbers (r .found) ≡ false → r .table ≡ t
   pub within : t .count ≤ 64 → r ≡ numRecord s t
