@@ -28,7 +28,7 @@ use Rattle.query.proofs.Conditions.{every, every-out, every-in, Given, 
 use Rattle.query.proofs.Steps.{saidStep, queryStep, heard, found, said-out, said-in, query-out, trust-in, authority-in, granted-in, said-under, every-at, at-every, said-is, said-search, query-search}
 
 -- a test against what it tests and against its contrary
-decided : {A : Type 1} {B : Type 0} (t : Bool) → (T t → A) → (A → T t) → ((T t → ⊥) → B) → (A → B → ⊥) → ((t ≡ true) ↔ A) × ((t ≡ false) ↔ B)
+decided : {A : Type 1} {B : Type 1} (t : Bool) → (T t → A) → (A → T t) → ((T t → ⊥) → B) → (A → B → ⊥) → ((t ≡ true) ↔ A) × ((t ≡ false) ↔ B)
 decided true to of other not = ((λ q. to tt, λ h. refl), (λ q. absurd (subst T q tt), λ k. absurd (not (to tt) k)))
 decided false to of other not = ((λ q. absurd (subst T (sym q) tt), λ h. absurd (of h)), (λ q. other (λ h. h), λ k. refl))
 
@@ -208,13 +208,13 @@ module _ (M : State) (F : Formed M) where
       decided (found M e)
       (λ h S c. query-sound S c (suc conclusions) e [] r h)
       (λ h. subst T (answer-truth e r) (stands-answered e h))
-      (λ n. (answerMarks allMarks, marks-closed, λ h. n (subst T (answer-truth e r) (marks-in allMarks e h))))
-      (λ h k. k .2 (h (In (k .0)) (k .1)))
+      (λ n. (In (answerMarks allMarks), marks-closed, λ h. n (subst T (answer-truth e r) (marks-in allMarks e h))))
+      (λ h k. k .2 (h (k .0) (k .1)))
 
   pub condition-answers : (d : Condition) → All InSaid d → ((every (heard M) d ≡ true) ↔ StandsAll M d) × ((every (heard M) d ≡ false) ↔ LackingOne M d)
   condition-answers d r =
       decided (every (heard M) d)
       (λ h S c. parts-hold S c d r h)
       (λ h. parts-heard (λ k. T (answer k)) (λ n t. t) d r (h (λ k. T (answer k)) answers-closed))
-      (λ n. (answerMarks allMarks, marks-closed, λ h. n (parts-heard (In (answerMarks allMarks)) (marks-in allMarks) d r h)))
-      (λ h k. k .2 (h (In (k .0)) (k .1)))
+      (λ n. (In (answerMarks allMarks), marks-closed, λ h. n (parts-heard (In (answerMarks allMarks)) (marks-in allMarks) d r h)))
+      (λ h k. k .2 (h (k .0) (k .1)))

@@ -5,7 +5,7 @@ use mathlib.Core.Bool.{Bool, true, false}
 use mathlib.Core.List.{List, []}
 use mathlib.Core.Logic.{_↔_}
 use Rattle.sorts.specs.Numbers.{saidMark, conclusions}
-use Rattle.rules.specs.Standing.{All, In}
+use Rattle.rules.specs.Standing.{All}
 use Rattle.book.specs.Machine.{State}
 use Rattle.book.specs.Closed.{ClosedSet}
 use Rattle.book.specs.Demands.{Stands, Lacking}
@@ -16,12 +16,12 @@ use Rattle.query.specs.Query.{InTruth, InSaid, Single, sayings, saidWith
 abbrev pub Has : (ℕ → Type 0) → Condition → Type 0
 Has S d = All (λ dᵢ. S (saidMark (dᵢ .speaker) (dᵢ .what))) d
 
--- Every closed set has the condition; some closed set, given by a list of marks, lacks it.
+-- Every closed set has the condition; some closed set lacks it.
 abbrev pub StandsAll : State → Condition → Type 1
 StandsAll M d = (S : ℕ → Type 0) → ClosedSet M S → Has S d
 
-abbrev pub LackingOne : State → Condition → Type 0
-LackingOne M d = (t : List ℕ) × ClosedSet M (In t) × (Has (In t) d → ⊥)
+abbrev pub LackingOne : State → Condition → Type 1
+LackingOne M d = (S : ℕ → Type 0) × ClosedSet M S × (Has S d → ⊥)
 
 -- Of functions Query2 and, of one Said, Holds2:
 pub record AsClosedSets (M : State) (query : ℕ → List ℕ → Bool) (said : Said → List Said → Bool) : Type 1 where
