@@ -16,8 +16,8 @@ use Rattle.reader.specs.Bytes.{Outcome, got, refused, andThen, byteAt, u
 use Rattle.reader.specs.Grants.{readProperty, readPacked, readIssue, readConcl, readConds, readWith, readGrant}
 use Rattle.reader.specs.Records.{letters, Record, TG, ST, LI, WD, readEntry, readLicence, nothingDeclared, readQuery, readContent, readRecord}
 
--- What is found in c, and in c with the bytes b and y after it. Where c is too short, and FF FF follows, which fits nowhere, another
--- fault is found.
+-- What is found in c, and in c with the bytes b and y after it. Where c is too short and FF FF follows, which fits nowhere,
+-- another fault is found.
 data Alike (c : List ℕ) (b : ℕ) (y : List ℕ) (A : Type 0) : Outcome A → Outcome A → Type 0 where
   same : (a : A) (n : ℕ) → n ≤ length c → Alike c b y A (got a n) (got a n)
   fault : (k : ℕ) → 2 ≤ k → k ≤ 5 → Alike c b y A (refused k) (refused k)

@@ -85,9 +85,10 @@ TurnedBack N (got (LI p g) n) k = (fits (number g N) ≡ false) × (k ≡ 6)
 TurnedBack N (got (WD p g) n) k = (has g N ≡ false) × (k ≡ 7)
 TurnedBack N (got (QU c) n) k = (fits (numberConcl c N) ≡ false) × (k ≡ 6)
 
--- THE PROMISE of the reader, over any table: a count above 64 is out of form, 9; over a table in form the answer and the
--- rows, written out, are what the two functions say, each number under its condition and no other, and the table left is in
--- form; a record that gives no numbers leaves the table as it was, in form or not. Over a table out of form with a count up to 64 it is the one pass over the rows as they are.
+-- THE PROMISE of the reader, over any table: a count above 64 is out of form, 9; over a table in form the answer and the rows,
+-- written out, are what the two functions say, each number under its condition and no other, and the table left is in form; a
+-- record that gives no numbers leaves the table as it was, in form or not. Over any table with a count up to 64, in form or not,
+-- it is the one pass over the rows as they are.
 pub record Reads (s : List ℕ) (t : Table) (r : Reading) : Type 0 where
   pub over : 64 < t .count → r ≡ record { table = t; found = Refused 9 }
   pub found : TableForm t → r .found ≡ foundOf (rowsOut (t .rows) (t .count)) (readRecord s)
