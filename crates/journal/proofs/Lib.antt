@@ -4,6 +4,6 @@ pub mod Signs
 pub mod Letters
 pub mod Marks
 pub mod Saying
+pub mod Ending
 pub mod Listings
 pub mod Reading
-pub mod Ending

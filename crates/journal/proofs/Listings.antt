@@ -8,18 +8,19 @@ use borrow.Author.Tests.{eq-eqb, ne-eqb}
 use lib.ListN.{length, drop, getD, length-drop}
 use Rattle.book.specs.declared.Book.{Book}
 use Rattle.book.specs.declared.Answered.{Answered}
-use Rattle.book.specs.Machine.{State}
+use Rattle.book.specs.Machine.{State, start}
 use Rattle.book.specs.Chains as chains
 use Rattle.book.specs.Chains.{Call, Chain, freshBook, freshMarks}
 use Rattle.book.specs.Demands.{Demand3}
 use Rattle.book.proofs.Demand3.{demand-3}
 use Rattle.book.proofs.Existence.{call-some}
-use Rattle.book.proofs.Reached.{Reached, fresh-reached, reached-after}
+use Rattle.book.proofs.Reached.{Reached, fresh-form, fresh-shows, fresh-reached, reached-after}
 use Rattle.book.proofs.Unique.{no-choice}
 use Rattle.journal.specs.declared.text.Text.{Text}
-use Rattle.journal.specs.Journals.{restAfter, Calls, ended, then, Listed, over, read, recordLines, Follows}
+use Rattle.journal.specs.Journals.{restAfter, Calls, ended, then, Listed, over, read, recordLines, Told, Follows, Ran}
 use Rattle.journal.specs.Lines.{lineOf, endOf}
 use Rattle.journal.specs.Texts.{Holds}
+use Rattle.journal.proofs.Ending.{all-end}
 
 -- the calls of a journal are a list of calls, each on the book and marks that the last one left
 calls-chain : {b b′ : Book} {m m′ s : List ℕ} {cs : List Call} → Calls b m s cs b′ m′ → Chain b m cs b′ m′
@@ -29,6 +30,15 @@ calls-chain (then s r n l h x) = chains.then s r n h (calls-chain x)
 -- DEMAND 3 holds of the calls of every journal.
 pub calls-demand-3 : {s m : List ℕ} {cs : List Call} {b : Book} → Calls freshBook freshMarks s cs b m → Demand3 cs b m
 calls-demand-3 {s} {m} {cs} {b} x = demand-3 cs b m (calls-chain x)
+
+-- So the listing of a journal that is not too long tells of such calls; so do the lines that the program wrote.
+pub listed-told : (s : List ℕ) (ls : List (List ℕ)) → length s ≤ 65536 → Listed s ls → Told s ls
+listed-told s ls h (over l) = absurd (omega arith)
+listed-told s ls h (read cs b m l x) =
+    record { calls = cs; book = b; marks = m; made = x; lines = refl; demand = calls-demand-3 x; ends = all-end start fresh-form fresh-shows x }
+
+pub ran-told : (s : List ℕ) (k : ℕ) → length s ≤ 65536 → (R : Ran s k) → Told s (R .lines)
+ran-told s k h R = listed-told s (R .lines) h (R .listed)
 
 -- a call leaves less to read
 

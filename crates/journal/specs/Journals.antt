@@ -12,6 +12,7 @@ use Rattle.book.specs.declared.Answer.the-variants.{Permitted, NotPermitted, Ch
 use Rattle.book.specs.declared.Answered.{Answered}
 use Rattle.book.specs.Calls.{Called}
 use Rattle.book.specs.Chains.{Call, freshBook, freshMarks}
+use Rattle.book.specs.Demands.{Demand3}
 use Rattle.journal.specs.declared.Stepped.{Stepped}
 use Rattle.journal.specs.declared.text.Text.{Text}
 use Rattle.journal.specs.Lines.{lineOf, endOf, refusedLine}
@@ -53,6 +54,17 @@ pub data Listed (s : List ℕ) : List (List ℕ) → Type 0 where
   over : 65536 < length s → Listed s (refusedLine 8 ∷ [])
   read : (cs : List Call) (b : Book) (m : List ℕ) → length s ≤ 65536 → Calls freshBook freshMarks s cs b m →
       Listed s (recordLines 1 cs ++ (endOf (length cs) m ∷ []))
+
+-- DEMANDED of the listing of a journal s that is not too long: it is the lines of its calls and the last line, and of these calls
+-- demand 3 holds, and they end at the refusals 1 to 5 alone.
+pub record Told (s : List ℕ) (ls : List (List ℕ)) : Type 1 where
+  pub calls : List Call
+  pub book : Book
+  pub marks : List ℕ
+  pub made : Calls freshBook freshMarks s calls book marks
+  pub lines : ls ≡ recordLines 1 calls ++ (endOf (length calls) marks ∷ [])
+  pub demand : Demand3 calls book marks
+  pub ends : AllEnd calls
 
 -- Where the next record starts, of a journal of len bytes.
 unfoldable pub nextPlace : ℕ → ℕ → ℕ → ℕ
