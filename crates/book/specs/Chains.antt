@@ -1,5 +1,5 @@
 -- Lists of calls from a fresh book.
-use Prim.Native.Nat.{ℕ, _+_}
+use Prim.Native.Nat.{ℕ}
 use mathlib.Core.List.{List, [], _∷_}
 use lib.ListN.{replicate}
 use Rattle.sorts.specs.Blank.{blankRow}
@@ -7,7 +7,6 @@ use Rattle.sorts.specs.Numbers.{allMarks}
 use Rattle.book.specs.declared.Book.{Book}
 use Rattle.book.specs.declared.Answered.{Answered}
 use Rattle.book.specs.Machine.{State, step}
-use Rattle.book.specs.Counts.{worth}
 use Rattle.book.specs.Calls.{Called}
 
 -- "A fresh book has blank rows, count 0, and every flag and mark 0."
@@ -41,12 +40,3 @@ records (c ∷ cs) = c .record′ ∷ records cs
 unfoldable pub runs : State → List (List ℕ) → State
 runs M [] = M
 runs M (s ∷ ss) = runs (step M s .next) ss
-
--- All gains, and all losses, of a list of calls.
-unfoldable pub allGains : List Call → ℕ
-allGains [] = 0
-allGains (c ∷ cs) = worth (c .gave .answer) .gained + allGains cs
-
-unfoldable pub allLosses : List Call → ℕ
-allLosses [] = 0
-allLosses (c ∷ cs) = worth (c .gave .answer) .lost + allLosses cs

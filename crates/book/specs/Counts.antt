@@ -3,11 +3,8 @@
 use Prim.Native.Nat.{ℕ, zero, _+_}
 use mathlib.Core.Bool.{cond, _&&_}
 use mathlib.Core.List.{List, [], _∷_}
-use mathlib.Core.Option.{Option, none, some}
 use lib.Dec.{eqb}
-use lib.IntN.{ℤ, pos, _-ℤ_}
-use Rattle.book.specs.declared.Answer.{Answer}
-use Rattle.book.specs.declared.Answer.the-variants.{Permitted, NotPermitted, Changed, Refused}
+use lib.IntN.{pos, _-ℤ_}
 use Rattle.book.specs.declared.Counts.{Counts}
 
 -- 1 where a mark went from 0 to 1
@@ -28,20 +25,3 @@ ones (a ∷ m) = cond (eqb a 1) 1 0 + ones m
 -- The counts of marks m that became n.
 unfoldable pub countsOf : List ℕ → List ℕ → Counts
 countsOf m n = record { gained = gains m n; lost = gains n m; net = pos (gains m n) -ℤ pos (gains n m) }
-
--- "If an answer is an enum, a definition gives this paper's number and values for each of its cases." The number of a refusal, and
--- the three counts: "QU .. has counts 0", "Every refusal has counts 0".
-pub record Worth : Type 0 where
-  pub number : Option ℕ
-  pub gained : ℕ
-  pub lost : ℕ
-  pub net : ℤ
-
-abbrev pub uncounted : Option ℕ → Worth
-uncounted k = record { number = k; gained = 0; lost = 0; net = pos 0 }
-
-abbrev pub worth : Answer → Worth
-worth Permitted = uncounted none
-worth NotPermitted = uncounted none
-worth (Changed c) = record { number = none; gained = c .gained; lost = c .lost; net = c .net }
-worth (Refused k) = uncounted (some k)

@@ -5,4 +5,3 @@ pub mod Books
 pub mod Calls
 pub mod Chains
 pub mod inner
-pub mod Demands

@@ -11,11 +11,11 @@ use Rattle.book.specs.declared.Answered.{Answered}
 use Rattle.book.specs.Machine.{State, start}
 use Rattle.book.specs.Chains as chains
 use Rattle.book.specs.Chains.{Call, Chain, freshBook, freshMarks}
-use Rattle.book.specs.Demands.{Demand3}
-use Rattle.book.proofs.Demand3.{demand-3}
-use Rattle.book.proofs.Existence.{call-some}
-use Rattle.book.proofs.Reached.{Reached, fresh-form, fresh-shows, fresh-reached, reached-after}
-use Rattle.book.proofs.Unique.{no-choice}
+use Rattle.demands.specs.Demands.{Demand3}
+use Rattle.demands.proofs.Demand3.{demand-3}
+use Rattle.demands.proofs.Existence.{call-some}
+use Rattle.demands.proofs.Reached.{Reached, fresh-form, fresh-shows, fresh-reached, reached-after}
+use Rattle.demands.proofs.Unique.{no-choice}
 use Rattle.journal.specs.declared.text.Text.{Text}
 use Rattle.journal.specs.Journals.{restAfter, Calls, ended, then, Listed, over, read, recordLines, Told, Follows, Ran}
 use Rattle.journal.specs.Lines.{lineOf, endOf}

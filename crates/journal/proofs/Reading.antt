@@ -13,7 +13,7 @@ use Rattle.book.specs.declared.Answered.{Answered}
 use Rattle.book.specs.Machine.{State, start}
 use Rattle.book.specs.Calls.{Called}
 use Rattle.book.specs.Chains.{Call, freshBook, freshMarks}
-use Rattle.book.proofs.Reached.{Reached, fresh-reached, reached-after}
+use Rattle.demands.proofs.Reached.{Reached, fresh-reached, reached-after}
 use Rattle.journal.specs.declared.Stepped.{Stepped}
 use Rattle.journal.specs.declared.text.Text.{Text}
 use Rattle.journal.specs.Journals.{restAfter, Calls, ended, then, nextPlace, Steps, Follows, Ran, Listed, over, read, recordLines}

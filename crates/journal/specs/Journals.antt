@@ -12,7 +12,7 @@ use Rattle.book.specs.declared.Answer.the-variants.{Permitted, NotPermitted, Ch
 use Rattle.book.specs.declared.Answered.{Answered}
 use Rattle.book.specs.Calls.{Called}
 use Rattle.book.specs.Chains.{Call, freshBook, freshMarks}
-use Rattle.book.specs.Demands.{Demand3}
+use Rattle.demands.specs.Demands.{Demand3}
 use Rattle.journal.specs.declared.Stepped.{Stepped}
 use Rattle.journal.specs.declared.text.Text.{Text}
 use Rattle.journal.specs.Lines.{lineOf, endOf, refusedLine}

@@ -21,9 +21,9 @@ use Rattle.book.specs.Machine.{State, Step, changes, asks, refuses, start, act,
 use Rattle.book.specs.Calls.{Called}
 use Rattle.book.specs.Chains.{freshBook, freshMarks, Call, Chain, records, runs}
 use Rattle.book.proofs.Forms.{concl-closed}
-use Rattle.book.proofs.Reached.{fresh-reached, reached-after}
-use Rattle.book.proofs.Demand2.{demand-2}
-use Rattle.book.proofs.Demand3.{after}
+use Rattle.demands.proofs.Reached.{fresh-reached, reached-after}
+use Rattle.demands.proofs.Demand2.{demand-2}
+use Rattle.demands.proofs.Demand3.{after}
 use Rattle.query.specs.Query.{fullQuery, fullSaid, implied}
 use Rattle.query.specs.Corrected.{AsClosedSets}
 use Rattle.query.proofs.Follows.{corrected}

@@ -19,7 +19,7 @@ use Rattle.rules.specs.Standing.{All, In, each}
 use Rattle.book.specs.Machine.{State}
 use Rattle.book.specs.Books.{bit}
 use Rattle.book.specs.Closed.{rowAt, ClosedSet}
-use Rattle.book.specs.Demands.{Stands, Lacking}
+use Rattle.demands.specs.Demands.{Stands, Lacking}
 use Rattle.query.specs.Figures.{Said, sameSaid, Condition, saidUnder}
 use Rattle.query.specs.Query.{InSaid, InTruth, sayings, Formed}
 use Rattle.query.specs.Corrected.{Has, StandsAll, LackingOne}

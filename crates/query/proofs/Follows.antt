@@ -9,7 +9,7 @@ use lib.Dec.{T, eqb}
 use Rattle.sorts.specs.Numbers.{saidMark, conclusions}
 use Rattle.rules.specs.Standing.{All}
 use Rattle.book.specs.Machine.{State}
-use Rattle.book.specs.Demands.{Stands, Lacking}
+use Rattle.demands.specs.Demands.{Stands, Lacking}
 use Rattle.query.specs.Figures.{Said, Condition, sameSaid, some, conditions, issuedBy, allowed, holds2, said2, auth2, query2}
 use Rattle.query.specs.Query.{InTruth, InSaid, Single, sayings, Formed, Follows, saidWithin, queryWithin, fullQuery, fullSaid}
 use Rattle.query.specs.Corrected.{Has, StandsAll, LackingOne, AsClosedSets, Ends}

@@ -9,11 +9,11 @@ use Rattle.book.specs.Machine.{State, start}
 use Rattle.book.specs.Books.{tableOf, BookForm, Shows}
 use Rattle.book.specs.Chains.{runs}
 use Rattle.book.proofs.Forms.{table-rows}
-use Rattle.book.proofs.RowBack.{shown-row}
-use Rattle.book.proofs.ClosedBook.{shown}
-use Rattle.book.proofs.Reached.{fresh-reached}
-use Rattle.book.proofs.Demand3.{after}
-use Rattle.book.proofs.Existence.{chain-some}
+use Rattle.demands.proofs.RowBack.{shown-row}
+use Rattle.demands.proofs.ClosedBook.{shown}
+use Rattle.demands.proofs.Reached.{fresh-reached}
+use Rattle.demands.proofs.Demand3.{after}
+use Rattle.demands.proofs.Existence.{chain-some}
 use Rattle.query.specs.Query.{Formed}
 
 -- a state that a book in form shows

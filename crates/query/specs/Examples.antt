@@ -12,7 +12,7 @@ use Rattle.worked.specs.Worked.{Entry, trust, licence, withdraw, Answer, permit
 use Rattle.worked.specs.Worked.{smart, good, trusted, plain, when, when2, for-grants, P7, P9, table}
 use Rattle.book.specs.Machine.{State, Verdict, changes, start, step}
 use Rattle.book.specs.Chains.{runs}
-use Rattle.book.specs.Demands.{Stands}
+use Rattle.demands.specs.Demands.{Stands}
 use Rattle.query.specs.Figures.{Said}
 use Rattle.query.specs.Query.{saidWithin, queryWithin}
 use Rattle.query.specs.ByBudget.{saidByBudget}

@@ -5,14 +5,14 @@ use mathlib.Core.Path.{_≡_, refl, ap}
 use mathlib.Core.List.{List, [], _∷_}
 use Rattle.reader.specs.inner.OneRecord.{numRecord}
 use Rattle.reader.proofs.Record.{reads-within}
 use Rattle.book.specs.declared.Book.{Book}
 use Rattle.book.specs.Machine.{State}
 use Rattle.book.specs.Books.{tableOf, BookForm}
 use Rattle.book.specs.Calls.{Called}
 use Rattle.book.specs.Chains.{freshBook, freshMarks, Call, Chain, none, then, records}
 use Rattle.book.specs.inner.Apply.{applied, marksApplied}
 use Rattle.book.proofs.Keeping.{called-formed}
-use Rattle.book.proofs.Reached.{Reached, fresh-reached, reached-after}
+use Rattle.demands.proofs.Reached.{Reached, fresh-reached, reached-after}
 
 -- a call on a book in form can be had
 pub call-some : (b : Book) (m s : List ℕ) → BookForm b m → Called b m s (applied b m (numRecord s (tableOf b))) (marksApplied b m (numRecord s (tableOf b)))

@@ -12,12 +12,12 @@ use Rattle.rows.proofs.Place.{has-lt}
 use Rattle.reader.specs.Bytes.{Outcome, got, refused}
 use Rattle.reader.specs.Records.{Record, TG, ST, LI, WD, QU, readRecord}
 use Rattle.reader.proofs.Fuse.{Ext, ext-refl, ext-trans}
 use Rattle.book.specs.declared.Book.{Book}
 use Rattle.book.specs.Machine.{State, start, acted, step}
 use Rattle.book.specs.Chains.{Call, Chain, freshBook, freshMarks, records, runs}
-use Rattle.book.proofs.Moving.{Moved, moved}
-use Rattle.book.proofs.Reached.{fresh-reached}
-use Rattle.book.proofs.Demand3.{after}
+use Rattle.demands.proofs.Moving.{Moved, moved}
+use Rattle.demands.proofs.Reached.{fresh-reached}
+use Rattle.demands.proofs.Demand3.{after}
 
 step-grows : (M : State) (s : List ℕ) → Ext (M .N) (step M s .next .N)
 unfolding step

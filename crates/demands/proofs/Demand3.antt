@@ -7,17 +7,18 @@ use Rattle.sorts.specs.Numbers.{allMarks}
 use Rattle.reader.specs.Bytes.{Outcome, got, refused}
 use Rattle.reader.specs.Records.{Record, TG, ST, LI, WD, QU, readRecord}
 use Rattle.rules.specs.Standing.{In, standing}
 use Rattle.book.specs.declared.Book.{Book}
 use Rattle.book.specs.declared.Answered.{Answered}
 use Rattle.book.specs.Machine.{State, start, step}
 use Rattle.book.specs.Counts.{ones}
 use Rattle.book.specs.Calls.{Called}
-use Rattle.book.specs.Chains.{freshBook, freshMarks, Call, Chain, none, then, records, runs, allGains, allLosses}
-use Rattle.book.specs.Demands.{Agrees, NoLoss, NoGain, OneWay, AllOneWay, Demand3}
-use Rattle.book.proofs.Balance.{ones-none}
-use Rattle.book.proofs.ClosedBook.{stands-in}
-use Rattle.book.proofs.Moving.{Moved, moved, Still}
-use Rattle.book.proofs.Reached.{Reached, fresh-reached, fol, reached-after, call-balance, no-loss, no-gain}
+use Rattle.book.specs.Chains.{freshBook, freshMarks, Call, Chain, none, then, records, runs}
+use Rattle.demands.specs.Worth.{allGains, allLosses}
+use Rattle.demands.specs.Demands.{Agrees, NoLoss, NoGain, OneWay, AllOneWay, Demand3}
+use Rattle.demands.proofs.Balance.{ones-none}
+use Rattle.demands.proofs.ClosedBook.{stands-in}
+use Rattle.demands.proofs.Moving.{Moved, moved, Still}
+use Rattle.demands.proofs.Reached.{Reached, fresh-reached, fol, reached-after, call-balance, no-loss, no-gain}
 
 -- what holds after a list of calls from a book that was reached
 pub record After (M : State) (m₀ : List ℕ) (cs : List Call) (b : Book) (m : List ℕ) : Type 0 where

@@ -11,14 +11,14 @@ use Rattle.sorts.specs.Blank.{noRow}
 use Rattle.rows.proofs.Shown.{Shown}
 use Rattle.reader.proofs.Fuse.{ext-refl}
 use Rattle.rules.specs.Rules.{flag}
 use Rattle.book.specs.declared.Book.{Book}
 use Rattle.book.specs.declared.Answered.{Answered}
 use Rattle.book.specs.Machine.{State, step}
 use Rattle.book.specs.Books.{BookForm, Shows}
 use Rattle.book.specs.Calls.{answerOf, marksAfter, Called}
-use Rattle.book.proofs.ClosedBook.{shown}
-use Rattle.book.proofs.RowBack.{shown-more}
-use Rattle.book.proofs.Shown.{shows-some}
+use Rattle.demands.proofs.ClosedBook.{shown}
+use Rattle.demands.proofs.RowBack.{shown-more}
+use Rattle.demands.proofs.Shown.{shows-some}
 
 -- two books in form that show the same state are the same
 

@@ -15,19 +15,20 @@ use Rattle.rules.specs.Rules.{Closed}
 use Rattle.rules.specs.Standing.{In, standing}
 use Rattle.rules.proofs.Standing.{standing-in, standing-length, standing-bits}
 use Rattle.rules.proofs.Saturation.{same-marks, zeroes-bits, zeroes-none}
 use Rattle.book.specs.declared.Book.{Book}
 use Rattle.book.specs.declared.Answer.{Answer}
 use Rattle.book.specs.declared.Answer.the-variants.{Permitted, NotPermitted}
 use Rattle.book.specs.declared.Answered.{Answered}
 use Rattle.book.specs.Machine.{State, Verdict, changes, asks, refuses, start, step, hasLicence}
-use Rattle.book.specs.Counts.{gains, ones, countsOf, worth}
+use Rattle.book.specs.Counts.{gains, ones, countsOf}
+use Rattle.demands.specs.Worth.{worth}
 use Rattle.book.specs.Books.{tableOf, BookForm, Shows}
 use Rattle.book.specs.Calls.{answerOf, marksAfter, Follows, Called}
 use Rattle.book.specs.Chains.{freshBook, freshMarks}
-use Rattle.book.proofs.Balance.{balance, none-gained}
+use Rattle.demands.proofs.Balance.{balance, none-gained}
 use Rattle.book.proofs.Forms.{table-rows}
-use Rattle.book.proofs.Moving.{asks-still, Up, Down}
-use Rattle.book.proofs.Standings.{up-stands, down-stands, still-stands}
+use Rattle.demands.proofs.Moving.{asks-still, Up, Down}
+use Rattle.demands.proofs.Standings.{up-stands, down-stands, still-stands}
 
 -- in form, showing the machine's state, with the standing statements as its marks
 pub record Reached (b : Book) (m : List ℕ) (M : State) : Type 0 where

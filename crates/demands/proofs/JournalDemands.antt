@@ -22,19 +22,20 @@ use Rattle.reader.specs.Records.{Record, LI, WD, readEntry, readLicence, readQu
 use Rattle.rules.specs.Rules.{resUnder, conclUnder, granted, issueMark, Values}
 use Rattle.rules.specs.Standing.{In, Bits}
 use Rattle.rules.proofs.Saturation.{same-marks, zeroes-none}
 use Rattle.book.specs.declared.Book.{Book}
 use Rattle.book.specs.declared.Answer.the-variants.{Permitted, NotPermitted}
 use Rattle.book.specs.Machine.{State, Step, asks, start, without, hasLicence, addLicence, withoutLicence, act, step}
 use Rattle.book.specs.Closed.{rowAt, Licensed, IsTrusted, ClosedSet}
 use Rattle.book.specs.Counts.{ones}
-use Rattle.book.specs.Chains.{freshBook, freshMarks, Call, Chain, none, then, records, runs, allGains, allLosses}
-use Rattle.book.specs.Demands.{Stands, Lacking, NoLoss, NoGain, OneWay, AllOneWay}
-use Rattle.book.proofs.Balance.{ones-none}
-use Rattle.book.proofs.Existence.{chain-some}
-use Rattle.book.proofs.Reached.{fresh-form}
-use Rattle.book.proofs.Demand2.{demand-2}
-use Rattle.book.proofs.Demand3.{demand-3}
-use Rattle.book.proofs.Journal.{journal, smart, good, may, journal-end, journal-runs}
+use Rattle.book.specs.Chains.{freshBook, freshMarks, Call, Chain, none, then, records, runs}
+use Rattle.demands.specs.Worth.{allGains, allLosses}
+use Rattle.demands.specs.Demands.{Stands, Lacking, NoLoss, NoGain, OneWay, AllOneWay}
+use Rattle.demands.proofs.Balance.{ones-none}
+use Rattle.demands.proofs.Existence.{chain-some}
+use Rattle.demands.proofs.Reached.{fresh-form}
+use Rattle.demands.proofs.Demand2.{demand-2}
+use Rattle.demands.proofs.Demand3.{demand-3}
+use Rattle.demands.proofs.Journal.{journal, smart, good, may, journal-end, journal-runs}
 
 -- The machine when the queries are answered: 0 has issued Good(2), and may at the second.
 abbrev asked : List Grant → List Grant → State

@@ -19,16 +19,16 @@ use Rattle.rules.specs.Standing.{In, Above, standing}
 use Rattle.rules.proofs.Ground.{Fewer}
 use Rattle.rules.proofs.Standing.{standing-mono, standing-length, standing-bits}
 use Rattle.rules.proofs.Saturation.{same-marks}
 use Rattle.book.specs.declared.Book.{Book}
 use Rattle.book.specs.Machine.{State}
 use Rattle.book.specs.Closed.{grantAt}
 use Rattle.book.specs.Books.{tableOf, BookForm, Shows, bit}
 use Rattle.book.specs.inner.Apply.{placeOf}
 use Rattle.book.proofs.Showing.{Known, standsIn, shows-uniform}
 use Rattle.book.proofs.Forms.{table-rows}
-use Rattle.book.proofs.RowBack.{shown-more}
-use Rattle.book.proofs.ClosedBook.{shown, flag-below, bit-set}
-use Rattle.book.proofs.Moving.{Grows}
+use Rattle.demands.proofs.RowBack.{shown-more}
+use Rattle.demands.proofs.ClosedBook.{shown, flag-below, bit-set}
+use Rattle.demands.proofs.Moving.{Grows}
 
 -- a grant of the first that has a number in the second has the same number and row there
 abbrev SamePlace : Book → State → Book → State → Type 0

@@ -15,12 +15,12 @@ use Rattle.rules.specs.Rules as rules
 use Rattle.rules.specs.Rules.{Met, granted, Values, ClosedUnder, Set, Closed, flag}
 use Rattle.rules.specs.Standing.{In, standing}
 use Rattle.rules.proofs.Standing.{standing-in, standing-out}
 use Rattle.book.specs.declared.Book.{Book}
 use Rattle.book.specs.Machine.{State, hasLicence}
 use Rattle.book.specs.Closed.{grantAt, rowAt, Licensed, IsTrusted, ClosedSet}
 use Rattle.book.specs.Books.{tableOf, BookForm, Shows, bit}
 use Rattle.book.proofs.Forms.{table-rows}
-use Rattle.book.proofs.RowBack.{shown-row}
+use Rattle.demands.proofs.RowBack.{shown-row}
 
 -- a set closed under licences and trusted grants is closed under fewer of them, with the same rows
 closed-fewer : (row row′ : ℕ → Row) (Lic Lic′ : ℕ → ℕ → Type 0) (Tr Tr′ : ℕ → Type 0) (S : ℕ → Type 0) →

@@ -8,11 +8,11 @@ use Rattle.rows.specs.Numbering.{place, has, add, number}
 use Rattle.reader.specs.Bytes.{byteAt, upto, principal, pack, form, head}
 use Rattle.reader.specs.Grants.{readProperty, readPacked, readIssue, readConcl, readConds, readWith, readGrant}
 use Rattle.reader.specs.Records.{readEntry, readLicence, readQuery, readContent, readRecord}
 use Rattle.book.specs.declared.Book.{Book}
 use Rattle.book.specs.Machine.{State, Verdict, changes, asks, refuses, start, without, hasLicence, addLicence, withoutLicence, act, step}
 use Rattle.book.specs.Books.{Shows}
 use Rattle.book.specs.Chains.{freshBook, freshMarks, Call, Chain, records, runs}
-use Rattle.book.proofs.Demand3.{demand-3}
+use Rattle.demands.proofs.Demand3.{demand-3}
 
 -- the seven records
 abbrev pub journal : List (List ℕ)

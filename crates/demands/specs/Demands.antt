@@ -11,17 +11,18 @@ use Rattle.rows.specs.Numbering.{has, number, numberConcl}
 use Rattle.reader.specs.Bytes.{Outcome, got, refused}
 use Rattle.reader.specs.Records.{Record, TG, ST, LI, WD, QU, readRecord}
 use Rattle.reader.specs.Requests.{fits}
 use Rattle.book.specs.declared.Book.{Book}
 use Rattle.book.specs.declared.Answer.{Answer}
 use Rattle.book.specs.declared.Answer.the-variants.{Permitted, NotPermitted, Changed, Refused}
 use Rattle.book.specs.declared.Counts.{Counts}
 use Rattle.book.specs.declared.Answered.{Answered}
 use Rattle.book.specs.Machine.{State, changes, asks, hasLicence, start, step}
 use Rattle.book.specs.Closed.{ClosedSet}
-use Rattle.book.specs.Counts.{gains, ones, countsOf, worth}
+use Rattle.book.specs.Counts.{gains, ones, countsOf}
 use Rattle.book.specs.Books.{BookForm, Shows}
 use Rattle.book.specs.Calls.{answerOf}
-use Rattle.book.specs.Chains.{Call, records, runs, allGains, allLosses}
+use Rattle.book.specs.Chains.{Call, records, runs}
+use Rattle.demands.specs.Worth.{worth, allGains, allLosses}
 
 -- A statement stands for the machine when it is in every closed set.
 abbrev pub Stands : State → ℕ → Type 1

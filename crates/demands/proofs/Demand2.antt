@@ -10,17 +10,17 @@ use lib.ListN.{getD}
 use lib.Dec.{eqb}
 use borrow.Author.Tests.{eq-eqb, ne-eqb}
 use Rattle.rules.specs.Standing.{In, standing}
 use Rattle.book.specs.declared.Book.{Book}
 use Rattle.book.specs.declared.Answer.the-variants.{Permitted, NotPermitted}
 use Rattle.book.specs.declared.Answered.{Answered}
 use Rattle.book.specs.Machine.{Verdict, asks, start, step}
 use Rattle.book.specs.Closed.{ClosedSet}
 use Rattle.book.specs.Calls.{answerOf, marksAfter, Called}
 use Rattle.book.specs.Chains.{freshBook, freshMarks, Call, Chain, records, runs}
-use Rattle.book.specs.Demands.{Demand2, Lacking}
-use Rattle.book.proofs.ClosedBook.{stands-in, stands-out}
-use Rattle.book.proofs.Reached.{fresh-reached, fol, reached-after}
-use Rattle.book.proofs.Demand3.{after}
+use Rattle.demands.specs.Demands.{Demand2, Lacking}
+use Rattle.demands.proofs.ClosedBook.{stands-in, stands-out}
+use Rattle.demands.proofs.Reached.{fresh-reached, fol, reached-after}
+use Rattle.demands.proofs.Demand3.{after}
 
 -- the two answers of a query, by its mark
 

@@ -14,17 +14,17 @@ use Rattle.reader.specs.Bytes.{got}
 use Rattle.reader.specs.Records.{TG, LI, readRecord}
 use Rattle.reader.specs.Requests.{fits}
 use Rattle.rules.specs.Standing.{standing}
 use Rattle.book.specs.declared.Book.{Book}
 use Rattle.book.specs.declared.Answer.the-variants.{Changed}
 use Rattle.book.specs.declared.Answered.{Answered}
 use Rattle.book.specs.Machine.{State, Licence, Verdict, Step, changes, refuse, act, acted, step, hasLicence, addLicence}
 use Rattle.book.specs.Counts.{gains, countsOf}
 use Rattle.book.specs.Books.{Shows}
 use Rattle.book.specs.Calls.{answerOf, Called}
-use Rattle.book.proofs.Balance.{none-gained}
-use Rattle.book.proofs.ClosedBook.{shown}
-use Rattle.book.proofs.Reached.{Reached, fol, reached-after}
-use Rattle.book.proofs.Unique.{same-book}
+use Rattle.demands.proofs.Balance.{none-gained}
+use Rattle.demands.proofs.ClosedBook.{shown}
+use Rattle.demands.proofs.Reached.{Reached, fol, reached-after}
+use Rattle.demands.proofs.Unique.{same-book}
 
 module _ {b : Book} {m s : List ℕ} {r : Answered} {n : List ℕ} {M : State} (R : Reached b m M) (C : Called b m s r n) where
   idle : step M s .says ≡ changes → step M s .next ≡ M →

@@ -14,19 +14,20 @@ use Rattle.rows.proofs.Bytes.{no-true}
 use Rattle.reader.specs.Bytes.{Outcome, got, refused}
 use Rattle.reader.specs.Records.{Record, TG, ST, LI, WD, QU, readRecord}
 use Rattle.reader.specs.Requests.{fits}
 use Rattle.book.specs.declared.Book.{Book}
 use Rattle.book.specs.declared.Counts.{Counts}
 use Rattle.book.specs.declared.Answer.{Answer}
 use Rattle.book.specs.declared.Answer.the-variants.{Permitted, NotPermitted, Changed, Refused}
 use Rattle.book.specs.declared.Answered.{Answered}
 use Rattle.book.specs.Machine.{State, Step, Verdict, changes, asks, refuses, refuse, act, acted, step, hasLicence}
-use Rattle.book.specs.Counts.{countsOf, worth}
+use Rattle.book.specs.Counts.{countsOf}
+use Rattle.demands.specs.Worth.{worth}
 use Rattle.book.specs.Books.{BookForm}
 use Rattle.book.specs.Calls.{answerOf, marksAfter, Follows, Called}
-use Rattle.book.specs.Demands.{Turned, Answers, Demand1}
+use Rattle.demands.specs.Demands.{Turned, Answers, Demand1}
 use Rattle.reader.proofs.Faults.{fault-range}
-use Rattle.book.proofs.Shown.{shows-some}
-use Rattle.book.proofs.Demand2.{answer-yes, answer-no}
+use Rattle.demands.proofs.Shown.{shows-some}
+use Rattle.demands.proofs.Demand2.{answer-yes, answer-no}
 
 both-ways : {A B C : Type 0} → A ↔ B → B ↔ C → A ↔ C
 both-ways p q = (λ a. q .0 (p .0 a), λ c. p .1 (q .1 c))

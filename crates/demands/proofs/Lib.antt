@@ -1,0 +1,16 @@
+pub mod Again
+pub mod Balance
+pub mod ClosedBook
+pub mod Demand1
+pub mod Demand2
+pub mod Demand3
+pub mod Existence
+pub mod Journal
+pub mod JournalDemands
+pub mod Kept
+pub mod Moving
+pub mod Reached
+pub mod RowBack
+pub mod Shown
+pub mod Standings
+pub mod Unique
