@@ -4,24 +4,34 @@ use mathlib.Core.Bool.{Bool, true, false}
 use mathlib.Core.Path.{_≡_, refl, sym, ap, _∙_}
 use mathlib.Core.List.{List}
 use native.Mathlib.Omega.{arith}
-use lib.ListN.{length, getD, List·getD-eq-default}
+use lib.ListN.{length, getD, replicate, getD-replicate, List·getD-eq-default}
+use lib.Seq.{ext-getD}
 use lib.Dec.{eqb, ltb}
 use borrow.Author.Tests.{eqb-true, ltb-true, ltb-false}
 use Rattle.sorts.specs.declared.Concl.{Concl}
 use Rattle.sorts.specs.declared.Concl.the-variants.{Property, Perm}
 use Rattle.sorts.specs.declared.Cond.{Cond}
 use Rattle.sorts.specs.declared.Row.{Row}
-use Rattle.sorts.specs.Blank.{blankConcl, blankCond, noRow}
+use Rattle.sorts.specs.Blank.{blankConcl, blankCond, blankRow, noRow}
 use Rattle.sorts.specs.Decides.{Decides}
 use Rattle.sorts.proofs.Marks.{prin-is}
 use Rattle.rows.specs.inner.Lookup.{both, sameConcl, sameCond, sameRow}
 use Rattle.rows.proofs.Bytes.{no-true}
+use Rattle.form.proofs.Deciding.{test-decides}
 use Rattle.rows.proofs.RowSame.{row-eq, row-refl}
 
 both-parts : (a b : Bool) → both a b ≡ true → (a ≡ true) × (b ≡ true)
 unfolding both
 both-parts true b e = (refl, e)
 both-parts false b e = absurd (no-true e)
+
+-- blank conditions, and past them what stands past the end
+blanks : (j : ℕ) → getD (replicate 4 blankCond) j blankCond ≡ blankCond
+blanks j = go (ltb j 4) refl
+  where
+    go : (b : Bool) → ltb j 4 ≡ b → getD (replicate 4 blankCond) j blankCond ≡ blankCond
+    go true q = getD-replicate 4 j blankCond blankCond (ltb-true j 4 q)
+    go false q = let m = ltb-false j 4 q in List·getD-eq-default (replicate 4 blankCond) blankCond {n = j} m
 
 concl-blank : (x : Concl) → sameConcl x blankConcl ≡ true → x ≡ blankConcl
 unfolding sameConcl
@@ -36,23 +46,30 @@ cond-blank x e =
     let q = both-parts (eqb (x .who .0) 0) (sameConcl (x .what) blankConcl) e in
     λ i. record { who = prin-is (x .who) (record { 0 = 0 }) (eqb-true (x .who .0) 0 (q .0)) i; what = concl-blank (x .what) (q .1) i }
 
-blank-blank : sameCond blankCond blankCond ≡ true
-unfolding sameCond sameConcl both
-blank-blank = refl
+blank-concl : sameConcl blankConcl blankConcl ≡ true
+unfolding sameConcl both
+blank-concl = refl
+
+pub concl-decides : (x : Concl) → Decides (sameConcl x blankConcl) (x ≡ blankConcl)
+concl-decides x = test-decides (sameConcl x blankConcl) (concl-blank x) (λ e. ap (λ (y : Concl). sameConcl y blankConcl) e ∙ blank-concl)
+
+blank-cond : sameCond blankCond blankCond ≡ true
+unfolding sameCond both
+blank-cond = blank-concl
 
 pub blank-decides : (x : Cond) → Decides (sameCond x blankCond) (x ≡ blankCond)
-blank-decides x = go (sameCond x blankCond) refl
-  where
-    go : (r : Bool) → sameCond x blankCond ≡ r → Decides r (x ≡ blankCond)
-    go true q = cond-blank x q
-    go false q = λ e. no-true (sym q ∙ ap (λ (y : Cond). sameCond y blankCond) e ∙ blank-blank)
+blank-decides x = test-decides (sameCond x blankCond) (cond-blank x) (λ e. ap (λ (y : Cond). sameCond y blankCond) e ∙ blank-cond)
 
 pub rows-decide : (a b : Row) → length (a .conds) ≡ 4 → length (b .conds) ≡ 4 → Decides (sameRow a b) (a ≡ b)
-rows-decide a b la lb = go (sameRow a b) refl
-  where
-    go : (r : Bool) → sameRow a b ≡ r → Decides r (a ≡ b)
-    go true q = row-eq a b la lb q
-    go false q = λ e. no-true (sym q ∙ ap (λ (y : Row). sameRow y b) e ∙ row-refl b)
+rows-decide a b la lb = test-decides (sameRow a b) (row-eq a b la lb) (λ e. ap (λ (y : Row). sameRow y b) e ∙ row-refl b)
+
+-- the conditions of a row decide whether it is blank, where nothing else in it is not
+pub row-blank : (x : Row) (b : Bool) → x .prins ≡ 0 → x .res ≡ 0 → x .count ≡ 0 → x .head ≡ blankConcl → length (x .conds) ≡ 4 →
+    Decides b ((j : ℕ) → x .count ≤ j → getD (x .conds) j blankCond ≡ blankCond) → Decides b (x ≡ blankRow)
+row-blank x true p r n h l d =
+    let e : x .conds ≡ replicate 4 blankCond = ext-getD blankCond (x .conds) (replicate 4 blankCond) l (λ j q. d j (omega arith) ∙ sym (blanks j)) in
+    λ i. record { prins = p i; res = r i; count = n i; conds = e i; head = h i }
+row-blank x false p r n h l d = λ e. d (λ j q. ap (λ (y : Row). getD (y .conds) j blankCond) e ∙ blanks j)
 
 -- blank places up to the end of a list are all the blank ones from a place on
 pub blank-after : (cs : List Cond) (n : ℕ) → length cs ≡ 4 → ((k : ℕ) → k < 4 → n ≤ k → getD cs k blankCond ≡ blankCond) → (k : ℕ) → n ≤ k → getD cs k blankCond ≡ blankCond

@@ -8,6 +8,12 @@ use lib.ListN.{length, length-map}
 use lib.Dec.{eqb, ltb}
 use borrow.Author.Tests.{ltb-true, ltb-false, eqb-true, eqb-false}
 use Rattle.sorts.specs.Decides.{Decides}
+use Rattle.rows.proofs.Bytes.{no-true}
+
+-- A test decides what holds where it does, and only there.
+pub test-decides : {A : Type 0} (r : Bool) → (r ≡ true → A) → (A → r ≡ true) → Decides r A
+test-decides true f g = f refl
+test-decides false f g = λ x. no-true (g x)
 
 -- A comparison decides what holds where it does, and only there.
 pub lt-decides : {A : Type 0} (a b : ℕ) → (a < b → A) → (A → a < b) → Decides (ltb a b) A

@@ -12,7 +12,7 @@ ghost use mathlib.Core.Path.{_≡_};
 ghost use Prim.Native.Nat.{ℕ, _≤_, _<_};
 ghost use lib.ListN.{length, getD};
 ghost use Rattle.sorts.specs.declared.Res.the-variants.{Issue};
-ghost use Rattle.sorts.specs.Blank.{blankCond, blankRow, noRow};
+ghost use Rattle.sorts.specs.Blank.{blankConcl, blankCond, blankRow, noRow};
 ghost use Rattle.sorts.specs.Decides.{Decides};
 ghost use Rattle.rows.specs.Form.{PrinForm, PackForm, ResForm, ConclForm, CondForm, RowForm, TableForm, larger, depth, rowsOut, noGrant};
 ghost use Rattle.form.specs.inner.Depths.{depthOfRes, depthOfConcl, depthOfConds, heldDepth};
@@ -177,15 +177,41 @@ fn equal_rows(a: Row, b: Row) -> bool
     rows::same_row(a, b)
 }
 
+// Whether a conclusion is blank.
+fn blank_concl(e: Concl) -> bool
+    ensures { λ r. ⌜ Decides r (e ≡ blankConcl) ⌝ }
+{
+    rows::same_concl(e, Concl::blank())
+}
+
+// Whether a row is blank.
+fn blank_row(x: Row) -> bool
+    ensures { λ r. ⌜ Decides r (x ≡ blankRow) ⌝ }
+{
+    if x.prins != 0 {
+        return false;
+    }
+    if x.res != 0 {
+        return false;
+    }
+    if x.count != 0 {
+        return false;
+    }
+    let e = x.head;
+    if !blank_concl(e) {
+        return false;
+    }
+    unused_conds_ok(x)
+}
+
 // Whether the rows from the count on are blank.
 fn unused_rows_ok(t: Table) -> bool
     ensures { λ r. ⌜ Decides r ((i : ℕ) → t .count ≤ i → i < 64 → getD (t .rows) i noRow ≡ blankRow) ⌝ }
 {
-    let b = Row::blank();
     let mut i = t.count;
     while i < Table::ROWS {
         let x = t.rows[i];
-        if !equal_rows(x, b) {
+        if !blank_row(x) {
             return false;
         }
         i += 1;
@@ -252,19 +278,25 @@ fn row_key(x: Row) -> u64
     BASE * d + concl_key(e)
 }
 
+// 1 where two keys are the same.
+fn same_key(a: u64, b: u64) -> u64
+    ensures { λ r. ⌜ (r ≡ 0 → a ≡ b → ⊥) × (r ≤ 1) ⌝ }
+{
+    if a == b { 1 } else { 0 }
+}
+
 // Whether k is none of the first n keys.
 fn new_key(keys: &[u64], n: usize, k: u64) -> bool
     requires { ⌜ n ≤ length (now keys) ⌝ }
     ensures { λ r. ⌜ (r ≡ true → (j : ℕ) → j < n → getD (now (keys .entry)) j 0 ≡ k → ⊥) ⌝ }
 {
+    let mut same: u64 = 0;
     let mut j: usize = 0;
     while j < n {
-        if keys[j] == k {
-            return false;
-        }
+        same += same_key(keys[j], k);
         j += 1;
     }
-    true
+    same == 0
 }
 
 // Whether row i, which has key k, is none of the rows before it, which have the keys before.
