@@ -7,6 +7,7 @@ ghost use Prim.Native.Nat.{ℕ, _≤_};
 ghost use lib.ListN.{length, getD};
 ghost use Rattle.sorts.specs.Decides.{Decides};
 ghost use Rattle.book.specs.Books.{BookForm};
+ghost use Rattle.book.specs.inner.Most.{Most};
 
 // The larger of two bytes.
 fn larger(a: u8, b: u8) -> u8
@@ -15,33 +16,32 @@ fn larger(a: u8, b: u8) -> u8
     if a <= b { b } else { a }
 }
 
-// Whether every byte is 0 or 1.
-fn bits(s: &[u8]) -> bool
-    ensures { λ r. ⌜ Decides r ((i : ℕ) → getD (now (s .entry)) i 0 ≤ 1) ⌝ }
+// The largest byte from a place on, 0 where there is none.
+fn most(s: &[u8], from: usize) -> u8
+    ensures { λ r. ⌜ Most (now (s .entry)) from r ⌝ }
 {
     let n = s.len();
     let mut m: u8 = 0;
-    let mut i: usize = 0;
+    let mut i = from;
     while i < n {
         m = larger(m, s[i]);
         i += 1;
     }
-    m <= 1
+    m
+}
+
+// Whether every byte is 0 or 1.
+fn bits(s: &[u8]) -> bool
+    ensures { λ r. ⌜ Decides r ((i : ℕ) → getD (now (s .entry)) i 0 ≤ 1) ⌝ }
+{
+    most(s, 0) <= 1
 }
 
 // Whether every byte from a place on is 0.
 fn zero_from(s: &[u8], from: usize) -> bool
     ensures { λ r. ⌜ Decides r ((i : ℕ) → from ≤ i → getD (now (s .entry)) i 0 ≡ 0) ⌝ }
 {
-    let n = s.len();
-    let mut i = from;
-    while i < n {
-        if s[i] != 0 {
-            return false;
-        }
-        i += 1;
-    }
-    true
+    most(s, from) == 0
 }
 
 // Whether the book and the marks lent with it are in form.
