@@ -1,5 +1,5 @@
 -- The depths that are worked out row by row are the depths of the rows written out.
-use Prim.Native.Nat.{ℕ, zero, suc, _+_, _-_, _<_, _≤_}
+use Prim.Native.Nat.{ℕ, zero, suc, _+_, _<_, _≤_}
 use mathlib.Core.List.{List, [], _∷_, _++_}
 use mathlib.Core.Bool.{Bool, true, false}
 use mathlib.Core.Path.{_≡_, refl, sym, ap, _∙_}
@@ -24,26 +24,19 @@ use Rattle.rows.proofs.Shown.{out-length}
 use Rattle.form.specs.inner.Depths.{depthOfRes, depthOfConcl, depthOfConds, heldDepth}
 use Rattle.form.proofs.Deciding.{each-more}
 
--- the conditions, from the last to the first
+-- blank conditions hold no grant, so that those past the count do not count
 
 module _ (depths : List ℕ) (cs : List Cond) where
-  pub conds-none : (n : ℕ) → 0 ≡ depthOfConds depths cs n (n - n)
-  unfolding depthOfConds
-  conds-none n = let e : n - n ≡ 0 = omega arith in rw e
+  conds-blank : (a k : ℕ) → ((j : ℕ) → a ≤ j → getD cs j blankCond ≡ blankCond) → depthOfConds depths cs a k ≡ 0
+  unfolding depthOfConds depthOfConcl
+  conds-blank a zero b = refl
+  conds-blank a (suc k) b = rw (b a (omega arith), conds-blank (a + 1) k (λ j l. b j (omega arith)))
 
-  pub conds-before : (j n d e r : ℕ) → 0 < j → j ≤ n → d ≡ depthOfConds depths cs j (n - j) → e ≡ depthOfConcl depths (getD cs (j - 1) blankCond .what) → r ≡ larger e d →
-      r ≡ depthOfConds depths cs (j - 1) (n - (j - 1))
+  conds-cut : (a n m : ℕ) → n ≤ m → ((j : ℕ) → a + n ≤ j → getD cs j blankCond ≡ blankCond) → depthOfConds depths cs a m ≡ depthOfConds depths cs a n
   unfolding depthOfConds
-  conds-before j n d e r pos le hd he hr =
-      let a : n - (j - 1) ≡ suc (n - j) = omega arith in
-      let b : j - 1 + 1 ≡ j = omega arith in
-      rw (a, b) (rw (← hd, ← he) hr)
-
-  pub conds-all : (j n d : ℕ) → j ≤ 0 → d ≡ depthOfConds depths cs j (n - j) → d ≡ depthOfConds depths cs 0 n
-  conds-all j n d le h =
-      let a : j ≡ 0 = omega arith in
-      let b : n - j ≡ n = omega arith in
-      rw (b, a) at h
+  conds-cut a zero m l b = conds-blank a m (λ j h. b j (omega arith))
+  conds-cut a (suc n) zero l b = absurd (not-suc-le-zero l)
+  conds-cut a (suc n) (suc m) l b = ap (larger (depthOfConcl depths (getD cs a blankCond .what))) (conds-cut (a + 1) n m (omega arith) (λ j h. b j (omega arith)))
 
 -- where the depths of the grants with numbers below i are right, so is that of a row that holds no others
 
@@ -66,9 +59,12 @@ module _ (depths : List ℕ) (N : List Grant) (i : ℕ) (small : i ≤ 64) (long
   conds-right cs a (suc k) b =
       λ z. larger (concl-right (getD cs a blankCond .what) (b a (omega arith)) z) (conds-right cs (a + 1) k (λ j l. b j (omega arith)) z)
 
-  row-right : (x : Row) → RowBelow i x → suc (heldDepth depths x) ≡ depth (writeRow N x)
+  row-right : (x : Row) → x .count ≤ 4 → ((j : ℕ) → x .count ≤ j → getD (x .conds) j blankCond ≡ blankCond) → RowBelow i x → suc (heldDepth depths x) ≡ depth (writeRow N x)
   unfolding depth writeRow
-  row-right x b = λ z. suc (larger (conds-right (x .conds) 0 (x .count) (λ j l. b .used j (omega arith)) z) (concl-right (x .head) (b .head) z))
+  row-right x n u b =
+      let e : depthOfConds depths (x .conds) 0 4 ≡ depthConds (writeConds N (x .conds) 0 (x .count)) =
+      conds-cut depths (x .conds) 0 (x .count) 4 n (λ j l. u j (omega arith)) ∙ conds-right (x .conds) 0 (x .count) (λ j l. b .used j (omega arith)) in
+      λ z. suc (larger (e z) (concl-right (x .head) (b .head) z))
 
 -- the depth of row i
 abbrev depthAt : List Row → ℕ → ℕ → ℕ
@@ -118,7 +114,7 @@ module _ (rows : List Row) (count : ℕ) (small : count ≤ 64) (used : (i : ℕ
 
   depth-right : (i : ℕ) (depths : List ℕ) → i < count → Worked rows count i depths → suc (heldDepth depths (rowAt i)) ≡ depthAt rows count i
   depth-right i depths l w =
-      row-right depths (out count) i (omega arith) (w .places) (w .right) (rowAt i) (form-below i (rowAt i) (used i l)) ∙ ap depth (sym (out-at count (omega arith) i l))
+      row-right depths (out count) i (omega arith) (w .places) (w .right) (rowAt i) (used i l .count) (used i l .unused) (form-below i (rowAt i) (used i l)) ∙ ap depth (sym (out-at count (omega arith) i l))
 
   pub too-deep : (i d : ℕ) (depths : List ℕ) → i < count → Worked rows count i depths → d ≡ heldDepth depths (rowAt i) → 3 < d → depthAt rows count i ≤ 4 → ⊥
   too-deep i d depths l w e h f = let r = depth-right i depths l w in omega arith

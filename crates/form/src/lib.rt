@@ -361,25 +361,27 @@ fn concl_depth(depths: [u8; 64], e: Concl) -> u8
     }
 }
 
-// The depth of the deepest grant that a row's conditions hold, 0 where they hold none.
-fn conds_depth(depths: [u8; 64], x: Row) -> u8
-    requires { ⌜ x .count ≤ 4 ⌝ }
-    ensures { λ r. ⌜ r ≡ depthOfConds depths (x .conds) 0 (x .count) ⌝ }
+// The depth of the grant that a condition holds, 0 where it holds none.
+fn cond_depth(depths: [u8; 64], c: Cond) -> u8
+    ensures { λ r. ⌜ r ≡ depthOfConcl depths (c .what) ⌝ }
 {
-    let mut d = 0;
-    let mut j = x.count as usize;
-    while 0 < j {
-        j -= 1;
-        let c = x.conds[j];
-        let e = c.what;
-        d = max(concl_depth(depths, e), d);
-    }
-    d
+    let e = c.what;
+    concl_depth(depths, e)
+}
+
+// The depth of the deepest grant that a row's four places for conditions hold, 0 where they hold none.
+fn conds_depth(depths: [u8; 64], x: Row) -> u8
+    ensures { λ r. ⌜ r ≡ depthOfConds depths (x .conds) 0 4 ⌝ }
+{
+    let c = x.conds;
+    let last = max(cond_depth(depths, c[3]), 0);
+    let third = max(cond_depth(depths, c[2]), last);
+    let second = max(cond_depth(depths, c[1]), third);
+    max(cond_depth(depths, c[0]), second)
 }
 
 // The depth of the deepest grant that a row holds, 0 where it holds none.
 fn held_depth(depths: [u8; 64], x: Row) -> u8
-    requires { ⌜ x .count ≤ 4 ⌝ }
     ensures { λ r. ⌜ r ≡ heldDepth depths x ⌝ }
 {
     let e = x.head;

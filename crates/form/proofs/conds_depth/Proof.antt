@@ -1,64 +1,62 @@
-use Prim.Native.Nat.{_≤_, _-_}
-use mathlib.Core.Path.{_≡_}
-use borrow.Author.Needs.{needs}
 use Rattle.form.specs.inner.Depths.{depthOfConds}
-use Rattle.form.proofs.Depths.{conds-none, conds-before, conds-all}
+use borrow.Author.Needs.{needs}
 use Rattle.form.proofs.conds_depth.Statement.{statement}
 use Rattle.form.proofs.conds_depth.Tie as tie
 
-abbrev Inv-loop : tie.InvT-loop
-Inv-loop depths x d₀ j₀ d j = (j ≤ x .count) × (d ≡ depthOfConds depths (x .conds) j (x .count - j))
+array-copy-out-cond-depth : tie.Need-array-copy-out-cond-depth
+array-copy-out-cond-depth c = search needs
 
-abbrev μ-loop : tie.MeasureT-loop
-μ-loop depths x d₀ j₀ d j = j
+cond-depth-requires : tie.Need-cond-depth-requires
+cond-depth-requires c κs = search needs
 
-cast-j : tie.Need-cast-j Inv-loop μ-loop
-cast-j c = search needs
-
-loop-holds : tie.Need-loop-holds Inv-loop μ-loop
-loop-holds c = (search needs, conds-none (c .args .depths) (c .args .t2 .conds) (c .args .t2 .count))
-
-sub-j : tie.Need-sub-j Inv-loop μ-loop
-sub-j c = search needs
-
-mul-c : tie.Need-mul-c Inv-loop μ-loop
-mul-c c = search needs
-
-element-copy-out-c : tie.Need-element-copy-out-c Inv-loop μ-loop
-element-copy-out-c c = search needs
-
-concl-depth-requires : tie.Need-concl-depth-requires Inv-loop μ-loop
-concl-depth-requires c κs = search needs
-
-max-requires : tie.Need-max-requires Inv-loop μ-loop
+max-requires : tie.Need-max-requires
 max-requires c κs = search needs
 
-loop-less : tie.Need-loop-less Inv-loop μ-loop
-loop-less c = search needs
+array-copy-out-cond-depth-2 : tie.Need-array-copy-out-cond-depth-2
+array-copy-out-cond-depth-2 c = search needs
 
-loop-again : tie.Need-loop-again Inv-loop μ-loop
-loop-again c = (
-  search needs,
-  conds-before (c .before .before .before .before .before .args .depths) (c .before .before .before .before .before .args .t2 .conds) (c .before .before .before .before .loop .j) (c .before .before .before .before .before .args .t2 .count) (c .before .before .before .before .loop .d) (c .before .concl-depth .result) (c .max .result)
-      (c .before .before .before .loop-test .taken) (c .before .before .before .before .loop .inv .0) (c .before .before .before .before .loop .inv .1) (c .before .concl-depth .ensures) (c .max .ensures),
-)
+cond-depth-requires-2 : tie.Need-cond-depth-requires-2
+cond-depth-requires-2 c κs = search needs
 
-returns : tie.Need-returns Inv-loop μ-loop
-returns c = conds-all (c .before .before .args .depths) (c .before .before .args .t2 .conds) (c .before .loop .j) (c .before .before .args .t2 .count) (c .before .loop .d) (c .loop-test .left) (c .before .loop .inv .1)
+max-requires-2 : tie.Need-max-requires-2
+max-requires-2 c κs = search needs
+
+array-copy-out-cond-depth-3 : tie.Need-array-copy-out-cond-depth-3
+array-copy-out-cond-depth-3 c = search needs
+
+cond-depth-requires-3 : tie.Need-cond-depth-requires-3
+cond-depth-requires-3 c κs = search needs
+
+max-requires-3 : tie.Need-max-requires-3
+max-requires-3 c κs = search needs
+
+array-copy-out-cond-depth-4 : tie.Need-array-copy-out-cond-depth-4
+array-copy-out-cond-depth-4 c = search needs
+
+cond-depth-requires-4 : tie.Need-cond-depth-requires-4
+cond-depth-requires-4 c κs = search needs
+
+max-requires-4 : tie.Need-max-requires-4
+max-requires-4 c κs = search needs
+
+returns : tie.Need-returns
+unfolding depthOfConds
+returns c = rw ((c .max4) .ensures, (c .before .cond-depth4) .ensures, (c .before .before .before .max3) .ensures, (c .before .before .before .before .cond-depth3) .ensures, (c .before .before .before .before .before .before .max2) .ensures, (c .before .before .before .before .before .before .before .cond-depth2) .ensures, (c .before .before .before .before .before .before .before .before .before .max) .ensures, (c .before .before .before .before .before .before .before .before .before .before .cond-depth) .ensures)
 
 pub conds-depth-spec : {M : Type 1} → statement M
 conds-depth-spec =
     tie.close
     (tie.spec
-    Inv-loop
-    μ-loop
-    cast-j
-    loop-holds
-    sub-j
-    mul-c
-    element-copy-out-c
-    concl-depth-requires
+    array-copy-out-cond-depth
+    cond-depth-requires
     max-requires
-    loop-less
-    loop-again
+    array-copy-out-cond-depth-2
+    cond-depth-requires-2
+    max-requires-2
+    array-copy-out-cond-depth-3
+    cond-depth-requires-3
+    max-requires-3
+    array-copy-out-cond-depth-4
+    cond-depth-requires-4
+    max-requires-4
     returns)

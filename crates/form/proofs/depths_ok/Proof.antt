@@ -22,13 +22,10 @@ element-copy-out-x : tie.Need-element-copy-out-x Inv-loop μ-loop
 element-copy-out-x c = search needs
 
 held-depth-requires : tie.Need-held-depth-requires Inv-loop μ-loop
-held-depth-requires c κs = c .before .before .before .pre .1 (c .before .before .loop .i) (c .before .loop-test .taken) .count
+held-depth-requires c κs = search needs
 
 returns : tie.Need-returns Inv-loop μ-loop
-returns c =
-    λ f.
-    too-deep (c .before .before .before .before .before .args .t1 .rows) (c .before .before .before .before .before .args .t1 .count) (c .before .before .before .before .before .pre .0) (c .before .before .before .before .before .pre .1) (c .before .before .before .before .loop .i) (c .before .held-depth .result) (c .before .before .before .before .loop .depths)
-    (c .before .before .before .loop-test .taken) (c .before .before .before .before .loop .inv) (c .before .held-depth .ensures) (search needs) (f (c .before .before .before .before .loop .i) (c .before .before .before .loop-test .taken))
+returns c = λ f. too-deep ((c .before .before .before .before .before .args) .t1 .rows) ((c .before .before .before .before .before .args) .t1 .count) ((c .before .before .before .before .before .pre) .0) ((c .before .before .before .before .before .pre) .1) ((c .before .before .before .before .loop) .i) ((c .before .held-depth) .result) ((c .before .before .before .before .loop) .depths) ((c .before .before .before .loop-test) .taken) ((c .before .before .before .before .loop) .inv) ((c .before .held-depth) .ensures) (search needs) (f ((c .before .before .before .before .loop) .i) ((c .before .before .before .loop-test) .taken))
 
 add-depths : tie.Need-add-depths Inv-loop μ-loop
 add-depths c = search needs
@@ -43,12 +40,10 @@ loop-less : tie.Need-loop-less Inv-loop μ-loop
 loop-less c = search needs
 
 loop-again : tie.Need-loop-again Inv-loop μ-loop
-loop-again c =
-    worked-more (c .before .before .before .before .before .args .t1 .rows) (c .before .before .before .before .before .args .t1 .count) (c .before .before .before .before .before .pre .0) (c .before .before .before .before .before .pre .1) (c .before .before .before .before .loop .i) (c .before .held-depth .result) (c .before .before .before .before .loop .depths)
-    (c .before .before .before .loop-test .taken) (c .before .before .before .before .loop .inv) (c .before .held-depth .ensures) (search needs)
+loop-again c = worked-more ((c .before .before .before .before .before .args) .t1 .rows) ((c .before .before .before .before .before .args) .t1 .count) ((c .before .before .before .before .before .pre) .0) ((c .before .before .before .before .before .pre) .1) ((c .before .before .before .before .loop) .i) ((c .before .held-depth) .result) ((c .before .before .before .before .loop) .depths) ((c .before .before .before .loop-test) .taken) ((c .before .before .before .before .loop) .inv) ((c .before .held-depth) .ensures) (search needs)
 
 returns-2 : tie.Need-returns-2 Inv-loop μ-loop
-returns-2 c = let l = c .loop-test .left in λ k h. c .before .loop .inv .low k (omega arith)
+returns-2 c = let l = (c .loop-test) .left in λ k h. (c .before .loop) .inv .low k (omega arith)
 
 pub depths-ok-spec : {M : Type 1} → statement M
 depths-ok-spec =

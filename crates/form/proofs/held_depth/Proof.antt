@@ -12,7 +12,7 @@ max-requires : tie.Need-max-requires
 max-requires c κs = search needs
 
 returns : tie.Need-returns
-returns c = rw (c .max .ensures, c .before .before .conds-depth .ensures, c .before .concl-depth .ensures)
+returns c = rw ((c .max) .ensures, (c .before .before .conds-depth) .ensures, (c .before .concl-depth) .ensures)
 
 pub held-depth-spec : {M : Type 1} → statement M
 held-depth-spec =

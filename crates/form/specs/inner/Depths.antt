@@ -26,6 +26,6 @@ unfoldable pub depthOfConds : List ℕ → List Cond → ℕ → ℕ → ℕ
 depthOfConds depths cs i zero = 0
 depthOfConds depths cs i (suc k) = larger (depthOfConcl depths (getD cs i blankCond .what)) (depthOfConds depths cs (i + 1) k)
 
--- the depth of the deepest grant that a row holds, or 0 where it holds none
+-- the depth of the deepest grant that a row holds, or 0 where it holds none; a place that it does not use holds none
 abbrev pub heldDepth : List ℕ → Row → ℕ
-heldDepth depths x = larger (depthOfConds depths (x .conds) 0 (x .count)) (depthOfConcl depths (x .head))
+heldDepth depths x = larger (depthOfConds depths (x .conds) 0 4) (depthOfConcl depths (x .head))
