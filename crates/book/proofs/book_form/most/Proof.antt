@@ -7,13 +7,13 @@ use Rattle.book.proofs.book_form.most.Statement.{statement}
 use Rattle.book.proofs.book_form.most.Tie as tie
 
 abbrev Inv-loop : tie.InvT-loop
-Inv-loop s from n m₀ i₀ m i = (from ≤ i) × ((k : ℕ) → from ≤ k → k < i → getD s k 0 ≤ m) × ((n : ℕ) → ((k : ℕ) → from ≤ k → getD s k 0 ≤ n) → m ≤ n)
+Inv-loop s from n m₀ i₀ m i = (from ≤ i) × ((k : ℕ) → k < i → from ≤ k → getD s k 0 ≤ m) × ((n : ℕ) → ((k : ℕ) → from ≤ k → getD s k 0 ≤ n) → m ≤ n)
 
 abbrev μ-loop : tie.MeasureT-loop
 μ-loop s from n m₀ i₀ m i = length s - i
 
 loop-holds : tie.Need-loop-holds Inv-loop μ-loop
-loop-holds c = (search needs, (λ k a l. absurd (omega arith)), λ n f. omega arith)
+loop-holds c = (search needs, (λ k l a. absurd (omega arith)), λ n f. omega arith)
 
 shared-slice-read-larger : tie.Need-shared-slice-read-larger Inv-loop μ-loop
 shared-slice-read-larger c = search needs
