@@ -11,6 +11,7 @@ pub mod Turning
 pub mod Needing
 pub mod Cueing
 pub mod Gapping
+pub mod Heeding
 pub mod Growth
 pub mod Sweeping
 pub mod Coursing

@@ -2,6 +2,7 @@
 pub mod Bits
 pub mod Layout
 pub mod Turn
+pub mod News
 pub mod Cues
 pub mod Grant
 pub mod Rule
