@@ -9,13 +9,13 @@ use Rattle.form.proofs.new_key.Statement.{statement}
 use Rattle.form.proofs.new_key.Tie as tie
 
 abbrev Inv-loop : tie.InvT-loop
-Inv-loop keys n k same₀ j₀ same j = (j ≤ n) × (same ≤ j) × (same ≡ 0 → (i : ℕ) → i < j → getD keys i 0 ≡ k → ⊥)
+Inv-loop keys n k same₀ j₀ same j = (same ≤ j) × (same ≡ 0 → (i : ℕ) → i < j → getD keys i 0 ≡ k → ⊥)
 
 abbrev μ-loop : tie.MeasureT-loop
 μ-loop keys n k same₀ j₀ same j = n - j
 
 loop-holds : tie.Need-loop-holds Inv-loop μ-loop
-loop-holds c = (search needs, search needs, λ e i l. absurd (omega arith))
+loop-holds c = (search needs, λ e i l. absurd (omega arith))
 
 mul-same-key : tie.Need-mul-same-key Inv-loop μ-loop
 mul-same-key c = search needs
@@ -36,10 +36,10 @@ loop-less : tie.Need-loop-less Inv-loop μ-loop
 loop-less c = search needs
 
 loop-again : tie.Need-loop-again Inv-loop μ-loop
-loop-again c = (search needs, omega (arith, (c .same-key) .ensures .1), λ e. each-more _ ((c .before .before .before .loop) .j) ((c .before .before .before .loop) .inv .2 (omega arith)) ((c .same-key) .ensures .0 (omega arith)))
+loop-again c = (omega (arith, (c .same-key) .ensures .1), λ e. each-more _ ((c .before .before .before .loop) .j) ((c .before .before .before .loop) .inv .1 (omega arith)) ((c .same-key) .ensures .0 (omega arith)))
 
 returns : tie.Need-returns Inv-loop μ-loop
-returns c = let l = (c .loop-test) .left in λ e i h. (c .before .loop) .inv .2 (eqb-true _ _ e) i (omega arith)
+returns c = let l = (c .loop-test) .left in λ e i h. (c .before .loop) .inv .1 (eqb-true _ _ e) i (omega arith)
 
 pub new-key-spec : {M : Type 1} → statement M
 new-key-spec =
