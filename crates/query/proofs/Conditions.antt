@@ -16,7 +16,7 @@ use Rattle.rows.specs.Form.{noGrant, rowOf}
 use Rattle.rows.proofs.Place.{place-at, has-in, has-lt}
 use Rattle.rules.specs.Rules.{granted, issueMark, firstValues, secondValues, resourceValues}
 use Rattle.rules.specs.Standing.{All, Some, each}
-use Rattle.rules.proofs.Lists.{some-each, some-one}
+use Rattle.rules.proofs.Lists.{some-each, some-one, some-join}
 use Rattle.book.specs.Machine.{State, Licence, hasLicence, sameLicence}
 use Rattle.book.proofs.Sets.{licence-eq, licence-refl}
 use Rattle.query.specs.Figures.{Said, Condition, some, conditionUnder, conditionsOf, conditions, issuedBy, allowed, holds2}
@@ -76,11 +76,6 @@ module _ {A : Type 0} where
       go false ih k = k .0
 
   module _ (P : A → Type 0) where
-    pub some-parts : (l m : List A) → Some P (l ++ m) → Some P l ⊎ Some P m
-    some-parts [] m h = inr h
-    some-parts (a ∷ l) m (inl h) = inl (inl h)
-    some-parts (a ∷ l) m (inr h) = ⊎-elim (λ u. inl (inr u)) (λ u. inr u) (some-parts l m h)
-
     pub some-left : (l m : List A) → Some P l → Some P (l ++ m)
     some-left [] m h = absurd h
     some-left (a ∷ l) m (inl h) = inl h
@@ -162,7 +157,7 @@ module _ (f : Condition → Bool) where
   unfolding conditions
   conditions-out N [] e h = h
   conditions-out N (g ∷ R) e h =
-      ⊎-elim (λ u. inl (given-out (rowOf N g) e u)) (λ u. inr (conditions-out N R e u)) (some-parts (λ d. T (f d)) (conditionsOf (rowOf N g) e) (conditions N R e) h)
+      ⊎-elim (λ u. inl (given-out (rowOf N g) e u)) (λ u. inr (conditions-out N R e u)) (some-join (λ d. T (f d)) (conditionsOf (rowOf N g) e) (conditions N R e) h)
 
   conditions-in : (N R : List Grant) (e : ℕ) → Some (λ g. Given f (rowOf N g) e) R → Some (λ d. T (f d)) (conditions N R e)
   unfolding conditions

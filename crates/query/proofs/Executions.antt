@@ -11,13 +11,13 @@ use Rattle.rows.specs.Numbering.{place}
 use Rattle.rows.specs.Form.{rowOf}
 use Rattle.rules.specs.Rules.{issueMark}
 use Rattle.rules.specs.Standing.{All, Some}
-use Rattle.rules.proofs.Lists.{some-one}
+use Rattle.rules.proofs.Lists.{some-one, some-join}
 use Rattle.book.specs.Machine.{State, Licence}
 use Rattle.query.specs.Figures.{Said, sameSaid, Condition, some, conditions, issuedBy, allowed, holds2, said2, auth2, query2}
 use Rattle.query.specs.Query.{sayings, saidWithin, queryWithin, fullSaid, implied}
 use Rattle.query.specs.Executions.{Order, SameMembers, Fair, asWritten, turn, partsTurned, Asked, Told, Asking, tell, Passing, handedBack, someTold, everyTold, saidTold, holdsTold, allowedTold, authTold, queryTold, impliedTold}
 use Rattle.query.proofs.Search.{same-answer}
-use Rattle.query.proofs.Conditions.{every, some-out, some-in, every-out, every-in, some-where, some-of, some-parts, some-left, some-right, holds-every}
+use Rattle.query.proofs.Conditions.{every, some-out, some-in, every-out, every-in, some-where, some-of, some-left, some-right, holds-every}
 use Rattle.query.proofs.Conditions.{Given, found-out, found-in, allowed-out, allowed-in}
 
 -- some of a list, every one of a list, by its members
@@ -60,7 +60,7 @@ module _ (M : State) (f : Condition → Bool) (a : ℕ → Bool) (e : ℕ) where
       (⊎-elim
       (some-left P (M .T) (allowed M a L′))
       (λ u. some-right P (M .T) (allowed M a L′) (allowed-in P M a L′ (some-moved Q L L′ s (allowed-out P M a L u))))
-      (some-parts P (M .T) (allowed M a L) (found-out f (M .N) (M .T ++ allowed M a L) e h)))
+      (some-join P (M .T) (allowed M a L) (found-out f (M .N) (M .T ++ allowed M a L) e h)))
 
   allowed-members : (L L′ : List Licence) → SameMembers L L′ → some f (conditions (M .N) (M .T ++ allowed M a L) e) ≡ some f (conditions (M .N) (M .T ++ allowed M a L′) e)
   allowed-members L L′ s =
@@ -177,7 +177,7 @@ as-written-fair = record { parts = λ d a. (λ h. h, λ h. h); tried = λ D a. (
 
 turn-out : (a : Said) (d : Condition) → Some (λ b. b ≡ a) (turn d) → Some (λ b. b ≡ a) d
 turn-out a [] h = h
-turn-out a (c ∷ d) h = ⊎-elim (λ u. inr (turn-out a d u)) (λ u. inl (some-one (λ b. b ≡ a) c u)) (some-parts (λ b. b ≡ a) (turn d) (c ∷ []) h)
+turn-out a (c ∷ d) h = ⊎-elim (λ u. inr (turn-out a d u)) (λ u. inl (some-one (λ b. b ≡ a) c u)) (some-join (λ b. b ≡ a) (turn d) (c ∷ []) h)
 
 turn-in : (a : Said) (d : Condition) → Some (λ b. b ≡ a) d → Some (λ b. b ≡ a) (turn d)
 turn-in a [] h = h

@@ -16,14 +16,14 @@ use Rattle.rows.specs.Form.{rowOf}
 use Rattle.rows.proofs.Place.{place-at, place-is, has-lt}
 use Rattle.rules.specs.Rules.{granted, condition, issueMark, firstValues, secondValues, resourceValues}
 use Rattle.rules.specs.RowForm.{RowForm, CondForm}
-use Rattle.rules.proofs.Lists.{each-all, all-each}
+use Rattle.rules.proofs.Lists.{each-all, all-each, some-join}
 use Rattle.rules.proofs.Bounds.{first-lt, second-lt, prin-lt, number-lt, granted-lt}
 use Rattle.book.specs.Machine.{State, Licence, hasLicence}
 use Rattle.book.specs.Closed.{grantAt, rowAt, Licensed, IsTrusted}
 use Rattle.query.specs.Figures.{Said, sameSaid, some, saidUnder, conditionUnder, conditions, issuedBy, allowed}
 use Rattle.query.specs.Query.{InSaid, InTruth, sayings, Formed}
 use Rattle.query.proofs.Search.{Search, walk}
-use Rattle.query.proofs.Conditions.{every, every-out, every-in, some-where, some-of, some-parts, some-left, some-right, Given}
+use Rattle.query.proofs.Conditions.{every, every-out, every-in, some-where, some-of, some-left, some-right, Given}
 use Rattle.query.proofs.Conditions.{found-out, found-in, issued-out, issued-in, allowed-out, allowed-in, has-some, some-has, licence-some, some-licence}
 
 both-out : (a b : Bool) → T (a && b) → T a × T b
@@ -117,7 +117,7 @@ module _ (M : State) (F : Formed M) where
       let k = some-licence l (M .L) (w .2) in
       let n = F .issuedIn l k in
       inr (place (l .what) (M .N), l .issuer, n .1, licence-at l k, w .1 .0, subst P (sym (at-number (l .what) (n .0))) (w .1 .1)))
-      (some-parts P (M .T) (allowed M a (M .L)) (found-out (every ok) (M .N) (M .T ++ allowed M a (M .L)) e h))
+      (some-join P (M .T) (allowed M a (M .L)) (found-out (every ok) (M .N) (M .T ++ allowed M a (M .L)) e h))
 
   pub trust-in : (ok : Said → Bool) (a : ℕ → Bool) (e g : ℕ) → IsTrusted M g → Given (every ok) (rowAt M g) e → T (queryStep M ok a e)
   trust-in ok a e g t w =

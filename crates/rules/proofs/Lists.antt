@@ -30,7 +30,7 @@ module _ {A : Type 0} where
   some-one P x (inr h) = absurd h
 
   module _ (P : A → Type 0) where
-    some-join : (xs ys : List A) → Some P (xs ++ ys) → Some P xs ⊎ Some P ys
+    pub some-join : (xs ys : List A) → Some P (xs ++ ys) → Some P xs ⊎ Some P ys
     some-join [] ys h = inr h
     some-join (x ∷ xs) ys (inl h) = inl (inl h)
     some-join (x ∷ xs) ys (inr h) = ⊎-elim (λ u. inl (inr u)) (λ u. inr u) (some-join xs ys h)
