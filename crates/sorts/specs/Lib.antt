@@ -1,3 +1,4 @@
 pub mod Numbers
+pub mod Flags
 pub mod Blank
 pub mod Decides
