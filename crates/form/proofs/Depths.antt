@@ -18,7 +18,8 @@ use Rattle.sorts.specs.declared.Cond.{Cond}
 use Rattle.sorts.specs.declared.Row.{Row}
 use Rattle.sorts.specs.Blank.{blankCond, noRow}
 use Rattle.rows.specs.Written.{Grant}
-use Rattle.rows.specs.Form.{noGrant, writeRes, writeConcl, writeConds, writeRow, rowsOut, larger, depth, depthConds, depthConcl, depthRight, RowForm}
+use Rattle.rows.specs.Form.{noGrant, writeRes, writeConcl, writeConds, writeRow, rowsOut, larger, depth, depthConds, depthConcl, depthRight}
+use Rattle.sorts.specs.RowForm.{RowForm}
 use Rattle.rows.proofs.Rows.{ResBelow, ConclBelow, RowBelow, form-below, below-up, row-ext, write-any, write-issue}
 use Rattle.rows.proofs.Shown.{out-length}
 use Rattle.form.specs.inner.Depths.{depthOfRes, depthOfConcl, depthOfConds, heldDepth}

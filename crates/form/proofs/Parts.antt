@@ -17,7 +17,8 @@ use Rattle.sorts.specs.declared.Row.{Row}
 use Rattle.sorts.specs.Blank.{blankCond, blankRow, noRow}
 use Rattle.rows.specs.declared.Table.{Table}
 use Rattle.sorts.specs.Decides.{Decides}
-use Rattle.rows.specs.Form.{PrinForm, PackForm, ResForm, ConclForm, CondForm, RowForm, TableForm, depth, rowsOut, noGrant}
+use Rattle.rows.specs.Form.{TableForm, depth, rowsOut, noGrant}
+use Rattle.sorts.specs.RowForm.{PrinForm, PackForm, ResForm, ConclForm, CondForm, RowForm}
 use Rattle.form.proofs.Deciding.{lt-decides, eq-decides}
 
 module _ (prins : ℕ) (p : Prin) where

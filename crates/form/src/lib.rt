@@ -14,7 +14,8 @@ ghost use lib.ListN.{length, getD};
 ghost use Rattle.sorts.specs.declared.Res.the-variants.{Issue};
 ghost use Rattle.sorts.specs.Blank.{blankConcl, blankCond, blankRow, noRow};
 ghost use Rattle.sorts.specs.Decides.{Decides};
-ghost use Rattle.rows.specs.Form.{PrinForm, PackForm, ResForm, ConclForm, CondForm, RowForm, TableForm, larger, depth, rowsOut, noGrant};
+ghost use Rattle.rows.specs.Form.{TableForm, larger, depth, rowsOut, noGrant};
+ghost use Rattle.sorts.specs.RowForm.{PrinForm, PackForm, ResForm, ConclForm, CondForm, RowForm};
 ghost use Rattle.form.specs.inner.Depths.{depthOfRes, depthOfConcl, depthOfConds, heldDepth};
 ghost use Rattle.form.specs.inner.Keys.{resKey, conclKey, condKey, rowKey};
 

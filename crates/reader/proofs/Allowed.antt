@@ -4,7 +4,8 @@ use mathlib.Core.Path.{_≡_}
 use mathlib.Core.List.{List}
 use mathlib.Core.Logic.{_⊎_}
 use Rattle.rows.specs.Written.{Grant, Conds, Concl, howMany}
-use Rattle.rows.specs.Form.{PrinForm, PackForm, depth, depthConds, depthConcl}
+use Rattle.rows.specs.Form.{depth, depthConds, depthConcl}
+use Rattle.sorts.specs.RowForm.{PrinForm, PackForm}
 use Rattle.rows.specs.Allowed.{Allowed, AllowedConds, AllowedConcl}
 use Rattle.reader.specs.declared.bytes.Scope.{Scope}
 use Rattle.reader.specs.Bytes.{got, principal, pack, form}

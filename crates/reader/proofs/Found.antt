@@ -9,7 +9,8 @@ use lib.ListN.{length}
 use lib.Dec.{ltb, leb, eqb}
 use borrow.Author.Tests.{ltb-true, leb-true, eqb-true, eqb-false}
 use Rattle.rows.specs.Written.{Grant, Conds, Concl, Right, grant, perm, issue, issueAny, run, export, howMany, kindOf, written, writtenConds, writtenConcl, writtenRight}
-use Rattle.rows.specs.Form.{PrinForm, PackForm, larger, depth, depthConds, depthConcl, depthRight}
+use Rattle.rows.specs.Form.{larger, depth, depthConds, depthConcl, depthRight}
+use Rattle.sorts.specs.RowForm.{PrinForm, PackForm}
 use Rattle.rows.specs.Allowed.{Allowed, AllowedConds, AllowedConcl, AllowedRight}
 use Rattle.reader.specs.declared.bytes.Scope.{Scope}
 use Rattle.reader.specs.Bytes.{Outcome, andThen, byteAt, upto, principal, pack, form, head, Head, declared}

@@ -21,7 +21,8 @@ use Rattle.rows.specs.declared.Entered.{Entered}
 use Rattle.rows.specs.inner.Lookup.{entered, findRow}
 use Rattle.rows.specs.Written.{Grant, Conds, Concl, Right, grant, none, also, property, perm, issue, issueAny, run, export}
 use Rattle.rows.specs.Numbering.{has, add, number, numberConds, numberConcl, numberRight}
-use Rattle.rows.specs.Form.{writeConcl, writeConds, writeRow, depth, RowForm}
+use Rattle.rows.specs.Form.{writeConcl, writeConds, writeRow, depth}
+use Rattle.sorts.specs.RowForm.{RowForm}
 use Rattle.rows.specs.Allowed.{Allowed}
 use Rattle.rows.proofs.Bytes.{no-true}
 use Rattle.rows.proofs.Rows.{ConclBelow, concl-up, concl-ext, conds-ext, write-issue}

@@ -9,7 +9,8 @@ use lib.ListN.{length}
 use lib.Dec.{ltb, leb, eqb}
 use borrow.Author.Tests.{leb-true, leb-false, lt-ltb, le-leb}
 use Rattle.rows.specs.Written.{Grant, Conds, Concl, Right, grant, none, also, property, perm, issue, issueAny, run, export, howMany, kindOf, written, writtenConds, writtenConcl, writtenRight}
-use Rattle.rows.specs.Form.{PrinForm, PackForm, larger, depth, depthConds, depthConcl, depthRight}
+use Rattle.rows.specs.Form.{larger, depth, depthConds, depthConcl, depthRight}
+use Rattle.sorts.specs.RowForm.{PrinForm, PackForm}
 use Rattle.rows.specs.Allowed.{Allowed, AllowedConds, AllowedConcl, AllowedRight}
 use Rattle.reader.specs.declared.bytes.Scope.{Scope}
 use Rattle.reader.specs.Bytes.{Outcome, got, refused, byteAt, upto, principal, pack, form, head, declared}

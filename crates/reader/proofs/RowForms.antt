@@ -16,7 +16,8 @@ use Rattle.sorts.specs.declared.Cond.{Cond}
 use Rattle.sorts.specs.declared.Row.{Row}
 use Rattle.sorts.specs.Blank.{blankCond}
 use Rattle.rows.specs.Written.{Grant}
-use Rattle.rows.specs.Form.{writeRes, writeConcl, writeConds, writeRow, ResForm, ConclForm, CondForm, RowForm}
+use Rattle.rows.specs.Form.{writeRes, writeConcl, writeConds, writeRow}
+use Rattle.sorts.specs.RowForm.{ResForm, ConclForm, CondForm, RowForm}
 use Rattle.rows.specs.Allowed.{Allowed, AllowedConds, AllowedConcl, AllowedRight}
 use Rattle.rows.proofs.Rows.{ResBelow, ConclBelow}
 

@@ -16,7 +16,8 @@ use Rattle.rows.specs.declared.Entered.{Entered}
 use Rattle.rows.specs.inner.Lookup.{sameRow, findFrom, findRow, entered}
 use Rattle.rows.specs.Written.{Grant}
 use Rattle.rows.specs.Numbering.{place, has, add}
-use Rattle.rows.specs.Form.{noGrant, writeRow, depth, RowForm}
+use Rattle.rows.specs.Form.{noGrant, writeRow, depth}
+use Rattle.sorts.specs.RowForm.{RowForm}
 use Rattle.rows.proofs.Bytes.{no-true}
 use Rattle.rows.proofs.Place.{place-at, place-lt}
 use Rattle.rows.proofs.RowSame.{row-eq, row-refl}

@@ -18,7 +18,8 @@ use Rattle.sorts.specs.declared.Row.{Row}
 use Rattle.sorts.specs.Blank.{blankCond}
 use Rattle.sorts.proofs.Marks.{prin-is, grant-is, pack-is}
 use Rattle.rows.specs.Written.{Grant, Concl, Right, grant, also, perm, issue, issueAny, run, export}
-use Rattle.rows.specs.Form.{noGrant, writeRes, writeConcl, writeConds, writeRow, ConclForm, RowForm}
+use Rattle.rows.specs.Form.{noGrant, writeRes, writeConcl, writeConds, writeRow}
+use Rattle.sorts.specs.RowForm.{ConclForm, RowForm}
 use Rattle.rows.proofs.Place.{Distinct}
 use Rattle.rows.proofs.RowSame.{row-path}
 

@@ -13,7 +13,8 @@ use Rattle.sorts.specs.declared.Row.{Row}
 use Rattle.sorts.specs.Blank.{blankRow, noRow}
 use Rattle.rows.specs.declared.Table.{Table}
 use Rattle.rows.specs.Written.{Grant}
-use Rattle.rows.specs.Form.{noGrant, writeRow, rowsOut, depth, RowForm, TableForm}
+use Rattle.rows.specs.Form.{noGrant, writeRow, rowsOut, depth, TableForm}
+use Rattle.sorts.specs.RowForm.{RowForm}
 use Rattle.rows.proofs.Place.{Distinct}
 use Rattle.rows.proofs.Rows.{RowBelow, form-below, below-up, row-ext, row-inj}
 

@@ -3,18 +3,17 @@ use Prim.Native.Nat.{ℕ, zero, suc, _+_, _≤_, _<_}
 use mathlib.Core.Path.{_≡_}
 use mathlib.Core.Bool.{cond}
 use mathlib.Core.List.{List, [], _∷_, _++_}
-use mathlib.Core.Logic.{_⊎_}
 use lib.ListN.{length, getD}
 use lib.Dec.{eqb, leb}
-use Rattle.sorts.specs.declared.Prin.{Prin}
-use Rattle.sorts.specs.declared.Pack.{Pack}
 use Rattle.sorts.specs.declared.Res as r
 use Rattle.sorts.specs.declared.Res.the-variants.{Issue, Run, Export}
 use Rattle.sorts.specs.declared.Concl as c
 use Rattle.sorts.specs.declared.Concl.the-variants.{Property, Perm}
 use Rattle.sorts.specs.declared.Cond.{Cond}
 use Rattle.sorts.specs.declared.Row.{Row}
+use Rattle.sorts.specs.Numbers.{grants, conditions, depths}
 use Rattle.sorts.specs.Blank.{blankCond, blankRow, noRow}
+use Rattle.sorts.specs.RowForm.{RowForm}
 use Rattle.rows.specs.declared.Table.{Table}
 use Rattle.rows.specs.Written.{Grant, Conds, Concl, Right, grant, none, also, property, perm, issue, issueAny, run, export, howMany}
 use Rattle.rows.specs.Numbering.{place}
@@ -37,7 +36,7 @@ condsOf N none (suc k) = blankCond ∷ condsOf N none k
 condsOf N (also p e cs) (suc k) = record { who = record { 0 = p }; what = conclOf N e } ∷ condsOf N cs k
 
 unfoldable pub rowOf : List Grant → Grant → Row
-rowOf N (grant prins res cs e) = record { prins = prins; res = res; count = howMany cs; conds = condsOf N cs 4; head = conclOf N e }
+rowOf N (grant prins res cs e) = record { prins = prins; res = res; count = howMany cs; conds = condsOf N cs conditions; head = conclOf N e }
 
 -- The other way: a row written out, its numbers read in N.
 
@@ -89,45 +88,11 @@ unfoldable mutual
   depthRight (run n) = 0
   depthRight (export n) = 0
 
--- "every other row is in range, with unused conditions blank, distinct, of depth at most 4, uses only variables it declares,
--- and holds only lower-numbered grants". Of a row with number i that declares prins principal variables and the resource
--- variable res:
-
--- a principal, or a variable that is declared
-abbrev pub PrinForm : ℕ → Prin → Type 0
-PrinForm prins p = (p .0 < 16) ⊎ ((p .0 ≡ 128) × (0 < prins)) ⊎ ((p .0 ≡ 129) × (1 < prins))
-
--- a pack, or the pack variable where it is declared
-abbrev pub PackForm : ℕ → Pack → Type 0
-PackForm res n = (n .0 < 32) ⊎ ((n .0 ≡ 128) × (res ≡ 2))
-
--- a grant of a lower number, or the grant variable where it is declared; a pack
-abbrev pub ResForm : ℕ → ℕ → r.Res → Type 0
-ResForm i res (Issue g) = (g .0 < i) ⊎ ((g .0 ≡ 128) × (res ≡ 1))
-ResForm i res (Run n) = PackForm res n
-ResForm i res (Export n) = PackForm res n
-
-abbrev pub ConclForm : ℕ → ℕ → ℕ → c.Concl → Type 0
-ConclForm i prins res (Property k p) = (k < 16) × PrinForm prins p
-ConclForm i prins res (Perm p x) = PrinForm prins p × ResForm i res x
-
-abbrev pub CondForm : ℕ → ℕ → ℕ → Cond → Type 0
-CondForm i prins res x = PrinForm prins (x .who) × ConclForm i prins res (x .what)
-
-pub record RowForm (i : ℕ) (x : Row) : Type 0 where
-  pub prins : x .prins ≤ 2
-  pub res : x .res ≤ 2
-  pub count : x .count ≤ 4
-  pub places : length (x .conds) ≡ 4
-  pub used : (j : ℕ) → j < x .count → CondForm i (x .prins) (x .res) (getD (x .conds) j blankCond)
-  pub unused : (j : ℕ) → x .count ≤ j → getD (x .conds) j blankCond ≡ blankCond
-  pub head : ConclForm i (x .prins) (x .res) (x .head)
-
 -- "the count is at most 64; rows from the count on are blank"
 pub record TableForm (t : Table) : Type 0 where
-  pub places : length (t .rows) ≡ 64
-  pub count : t .count ≤ 64
+  pub places : length (t .rows) ≡ grants
+  pub count : t .count ≤ grants
   pub used : (i : ℕ) → i < t .count → RowForm i (getD (t .rows) i noRow)
-  pub unused : (i : ℕ) → t .count ≤ i → i < 64 → getD (t .rows) i noRow ≡ blankRow
+  pub unused : (i : ℕ) → t .count ≤ i → i < grants → getD (t .rows) i noRow ≡ blankRow
   pub distinct : (i j : ℕ) → i < t .count → j < t .count → getD (t .rows) i noRow ≡ getD (t .rows) j noRow → i ≡ j
-  pub depths : (i : ℕ) → i < t .count → depth (getD (rowsOut (t .rows) (t .count)) i noGrant) ≤ 4
+  pub depths : (i : ℕ) → i < t .count → depth (getD (rowsOut (t .rows) (t .count)) i noGrant) ≤ depths

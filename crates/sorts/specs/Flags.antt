@@ -1,5 +1,5 @@
 -- The ways in which a grant stands, and where a book has them.
-use Prim.Native.Nat.{ℕ, _+_, _*_}
+use Prim.Native.Nat.{ℕ, _+_, _*_, _<_}
 use mathlib.Core.List.{List}
 use lib.ListN.{getD}
 use Rattle.sorts.specs.Numbers.{speakers, grants}
@@ -12,6 +12,11 @@ rowFlags = 1 + speakers
 
 abbrev pub allFlags : ℕ
 allFlags = grants * rowFlags
+
+-- "A licence" is a pair of "issuer byte 00 to 0F" and grant.
+abbrev pub StatusForm : Status → Type 0
+StatusForm Trusted = Unit {0}
+StatusForm (Issued p) = p .0 < speakers
 
 abbrev pub flagOf : Status → ℕ
 flagOf Trusted = 0

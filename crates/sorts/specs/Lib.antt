@@ -1,4 +1,5 @@
 pub mod Numbers
 pub mod Flags
 pub mod Blank
+pub mod RowForm
 pub mod Decides

@@ -23,6 +23,13 @@ packs = 32
 abbrev pub grants : ℕ
 grants = 64
 
+-- "how many conditions, 0 to 4", and "depth 4 is the last allowed"
+abbrev pub conditions : ℕ
+conditions = 4
+
+abbrev pub depths : ℕ
+depths = 4
+
 -- "A closed conclusion is Property(k, p) or Perm(p, right, resource)": one whose numbers are in these ranges.
 abbrev pub ClosedRes : Res → Type 0
 ClosedRes (Issue g) = g .0 < grants

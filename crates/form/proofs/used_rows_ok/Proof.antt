@@ -3,7 +3,7 @@ use lib.ListN.{getD}
 use borrow.Author.Needs.{needs}
 use borrow.Author.Tests.{not-true, not-false}
 use Rattle.sorts.specs.Blank.{noRow}
-use Rattle.rows.specs.Form.{RowForm}
+use Rattle.sorts.specs.RowForm.{RowForm}
 use native.Mathlib.Omega.{arith}
 use Rattle.form.proofs.Deciding.{each-more}
 use Rattle.form.proofs.used_rows_ok.Statement.{statement}
