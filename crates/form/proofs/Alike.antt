@@ -1,4 +1,4 @@
--- The tests of sameness decide equality; the blank conditions of a row, and the distinct rows of a table.
+-- The tests of sameness decide what is blank, and the blank conditions of a row.
 use Prim.Native.Nat.{ℕ, _<_, _≤_}
 use mathlib.Core.Bool.{Bool, true, false}
 use mathlib.Core.Path.{_≡_, refl, sym, ap, _∙_}
@@ -8,17 +8,17 @@ use lib.ListN.{length, getD, replicate, getD-replicate, List·getD-eq-default}
 use lib.Seq.{ext-getD}
 use lib.Dec.{eqb, ltb}
 use borrow.Author.Tests.{eqb-true, ltb-true, ltb-false}
+use Rattle.sorts.specs.Numbers.{conditions}
 use Rattle.sorts.specs.declared.Concl.{Concl}
 use Rattle.sorts.specs.declared.Concl.the-variants.{Property, Perm}
 use Rattle.sorts.specs.declared.Cond.{Cond}
 use Rattle.sorts.specs.declared.Row.{Row}
-use Rattle.sorts.specs.Blank.{blankConcl, blankCond, blankRow, noRow}
+use Rattle.sorts.specs.Blank.{blankConcl, blankCond, blankRow}
 use Rattle.sorts.specs.Decides.{Decides}
 use Rattle.sorts.proofs.Marks.{prin-is}
-use Rattle.rows.specs.inner.Lookup.{both, sameConcl, sameCond, sameRow}
+use Rattle.rows.specs.inner.Lookup.{both, sameConcl, sameCond}
 use Rattle.rows.proofs.Bytes.{no-true}
-use Rattle.form.proofs.Deciding.{test-decides}
-use Rattle.rows.proofs.RowSame.{row-eq, row-refl}
+use Rattle.rows.proofs.Deciding.{test-decides}
 
 both-parts : (a b : Bool) → both a b ≡ true → (a ≡ true) × (b ≡ true)
 unfolding both
@@ -26,12 +26,12 @@ both-parts true b e = (refl, e)
 both-parts false b e = absurd (no-true e)
 
 -- blank conditions, and past them what stands past the end
-blanks : (j : ℕ) → getD (replicate 4 blankCond) j blankCond ≡ blankCond
-blanks j = go (ltb j 4) refl
+blanks : (j : ℕ) → getD (replicate conditions blankCond) j blankCond ≡ blankCond
+blanks j = go (ltb j conditions) refl
   where
-    go : (b : Bool) → ltb j 4 ≡ b → getD (replicate 4 blankCond) j blankCond ≡ blankCond
-    go true q = getD-replicate 4 j blankCond blankCond (ltb-true j 4 q)
-    go false q = let m = ltb-false j 4 q in List·getD-eq-default (replicate 4 blankCond) blankCond {n = j} m
+    go : (b : Bool) → ltb j conditions ≡ b → getD (replicate conditions blankCond) j blankCond ≡ blankCond
+    go true q = getD-replicate conditions j blankCond blankCond (ltb-true j conditions q)
+    go false q = let m = ltb-false j conditions q in List·getD-eq-default (replicate conditions blankCond) blankCond {n = j} m
 
 concl-blank : (x : Concl) → sameConcl x blankConcl ≡ true → x ≡ blankConcl
 unfolding sameConcl
@@ -60,31 +60,18 @@ blank-cond = blank-concl
 pub blank-decides : (x : Cond) → Decides (sameCond x blankCond) (x ≡ blankCond)
 blank-decides x = test-decides (sameCond x blankCond) (cond-blank x) (λ e. ap (λ (y : Cond). sameCond y blankCond) e ∙ blank-cond)
 
-pub rows-decide : (a b : Row) → length (a .conds) ≡ 4 → length (b .conds) ≡ 4 → Decides (sameRow a b) (a ≡ b)
-rows-decide a b la lb = test-decides (sameRow a b) (row-eq a b la lb) (λ e. ap (λ (y : Row). sameRow y b) e ∙ row-refl b)
-
 -- the conditions of a row decide whether it is blank, where nothing else in it is not
-pub row-blank : (x : Row) (b : Bool) → x .prins ≡ 0 → x .res ≡ 0 → x .count ≡ 0 → x .head ≡ blankConcl → length (x .conds) ≡ 4 →
+pub row-blank : (x : Row) (b : Bool) → x .prins ≡ 0 → x .res ≡ 0 → x .count ≡ 0 → x .head ≡ blankConcl → length (x .conds) ≡ conditions →
     Decides b ((j : ℕ) → x .count ≤ j → getD (x .conds) j blankCond ≡ blankCond) → Decides b (x ≡ blankRow)
 row-blank x true p r n h l d =
-    let e : x .conds ≡ replicate 4 blankCond = ext-getD blankCond (x .conds) (replicate 4 blankCond) l (λ j q. d j (omega arith) ∙ sym (blanks j)) in
+    let e : x .conds ≡ replicate conditions blankCond = ext-getD blankCond (x .conds) (replicate conditions blankCond) l (λ j q. d j (omega arith) ∙ sym (blanks j)) in
     λ i. record { prins = p i; res = r i; count = n i; conds = e i; head = h i }
 row-blank x false p r n h l d = λ e. d (λ j q. ap (λ (y : Row). getD (y .conds) j blankCond) e ∙ blanks j)
 
 -- blank places up to the end of a list are all the blank ones from a place on
-pub blank-after : (cs : List Cond) (n : ℕ) → length cs ≡ 4 → ((k : ℕ) → k < 4 → n ≤ k → getD cs k blankCond ≡ blankCond) → (k : ℕ) → n ≤ k → getD cs k blankCond ≡ blankCond
-blank-after cs n l f k h = go (ltb k 4) refl
+pub blank-after : (cs : List Cond) (n : ℕ) → length cs ≡ conditions → ((k : ℕ) → k < conditions → n ≤ k → getD cs k blankCond ≡ blankCond) → (k : ℕ) → n ≤ k → getD cs k blankCond ≡ blankCond
+blank-after cs n l f k h = go (ltb k conditions) refl
   where
-    go : (b : Bool) → ltb k 4 ≡ b → getD cs k blankCond ≡ blankCond
-    go true q = f k (ltb-true k 4 q) h
-    go false q = let m = ltb-false k 4 q in List·getD-eq-default cs blankCond (omega arith)
-
--- rows none of which is one before it are distinct
-pub all-distinct : (rows : List Row) (n : ℕ) → ((i : ℕ) → i < n → (j : ℕ) → j < i → getD rows j noRow ≡ getD rows i noRow → ⊥) →
-    (i j : ℕ) → i < n → j < n → getD rows i noRow ≡ getD rows j noRow → i ≡ j
-all-distinct rows n f i j hi hj e = go (ltb i j) refl (ltb j i) refl
-  where
-    go : (a : Bool) → ltb i j ≡ a → (b : Bool) → ltb j i ≡ b → i ≡ j
-    go true p b q = absurd (f j hj i (ltb-true i j p) e)
-    go false p true q = absurd (f i hi j (ltb-true j i q) (sym e))
-    go false p false q = let l = ltb-false i j p in let m = ltb-false j i q in omega arith
+    go : (b : Bool) → ltb k conditions ≡ b → getD cs k blankCond ≡ blankCond
+    go true q = f k (ltb-true k conditions q) h
+    go false q = let m = ltb-false k conditions q in List·getD-eq-default cs blankCond (omega arith)

@@ -9,11 +9,13 @@ use lib.ListN.{length, getD, set, length-set, List·getD-append}
 use lib.Seq.{getD-append-seam, getD-set-same, getD-set-other}
 use lib.Dec.{eqb, ltb}
 use borrow.Author.Tests.{eqb-true, eqb-false, ltb-true, ltb-false, lt-ltb, le-ltb}
+use Rattle.sorts.specs.Numbers.{depths, grants}
 use Rattle.sorts.specs.declared.Row.{Row}
 use Rattle.sorts.specs.Blank.{noRow}
+use Rattle.rows.specs.declared.Table.{Table}
 use Rattle.rows.specs.declared.Numbering.{Numbering}
 use Rattle.rows.specs.declared.Entered.{Entered}
-use Rattle.rows.specs.inner.Lookup.{sameRow, findFrom, findRow, entered}
+use Rattle.rows.specs.inner.Lookup.{sameRow, findFrom, findRow, withRow, entered}
 use Rattle.rows.specs.Written.{Grant}
 use Rattle.rows.specs.Numbering.{place, has, add}
 use Rattle.rows.specs.Form.{noGrant, writeRow, depth}
@@ -60,28 +62,31 @@ find-cases rows x n = go (ltb 0 n) refl (from-cases rows x 0 (n - 0))
     go false q f = let z : n ≤ 0 = ltb-false 0 n q in inr (rw q, λ j l h. absurd (omega arith))
 
 -- the table shows N, or it had no room for all of N
-pub data Good (t : Numbering) (N : List Grant) : Type 0 where
-  tied : t .full ≡ false → Shown (t .rows) (t .count) N → Good t N
-  over : t .full ≡ true → 64 < length N → t .count ≤ 64 → Good t N
+pub data Good (u : Numbering) (N : List Grant) : Type 0 where
+  tied : u .full ≡ false → Shown (u .table .rows) (u .table .count) N → Good u N
+  over : u .full ≡ true → grants < length N → u .table .count ≤ grants → Good u N
 
 -- g's number in N, where the table has room
 unfoldable pub Names : Numbering → List Grant → ℕ → Grant → Type 0
-Names t N i g = t .full ≡ false → (i < length N) × (getD N i noGrant ≡ g)
+Names u N i g = u .full ≡ false → (i < length N) × (getD N i noGrant ≡ g)
 
 -- what entering a row leaves
 pub record Put (N : List Grant) (g : Grant) (e : Entered) : Type 0 where
-  pub good : Good (e .table) (add g N)
-  pub names : Names (e .table) (add g N) (e .no .0) g
+  pub good : Good (e .numbering) (add g N)
+  pub names : Names (e .numbering) (add g N) (e .no .0) g
 
-module _ (t : Numbering) (N : List Grant) (x : Row) (room : t .full ≡ false) (R : Shown (t .rows) (t .count) N) (F : RowForm (length N) x) (D : depth (writeRow N x) ≤ 4) where
+module _ (u : Numbering) (N : List Grant) (x : Row) (room : u .full ≡ false) (R : Shown (u .table .rows) (u .table .count) N) (F : RowForm (length N) x) (D : depth (writeRow N x) ≤ depths) where
   B : RowBelow (length N) x
   B = form-below (length N) x F
 
-  small : length N ≤ 64
+  small : length N ≤ grants
   small = let c = R .counted in let s = R .small in omega arith
 
+  abbrev t : Table
+  t = u .table
+
   -- where the row stands, its number is the grant's
-  put-old : (v : ℕ) → v < t .count → sameRow (getD (t .rows) v noRow) x ≡ true → Put N (writeRow N x) (record { table = t; no = record { 0 = v } })
+  put-old : (v : ℕ) → v < t .count → sameRow (getD (t .rows) v noRow) x ≡ true → Put N (writeRow N x) (record { numbering = u; no = record { 0 = v } })
   unfolding add has Names
   put-old v lt same =
       let cnt = R .counted in
@@ -110,9 +115,9 @@ module _ (t : Numbering) (N : List Grant) (x : Row) (room : t .full ≡ false) (
       go false e = e
 
   more : Numbering
-  more = record { rows = set (t .rows) (t .count) x; count = t .count + 1; full = t .full }
+  more = record { table = withRow t x; full = u .full }
 
-  put-more : ((i : ℕ) → i < length N → getD N i noGrant ≡ writeRow N x → ⊥) → t .count < 64 → Put N (writeRow N x) (record { table = more; no = record { 0 = t .count } })
+  put-more : ((i : ℕ) → i < length N → getD N i noGrant ≡ writeRow N x → ⊥) → t .count < grants → Put N (writeRow N x) (record { numbering = more; no = record { 0 = t .count } })
   unfolding add Names more
   put-more new lt =
       rw-put (not-has new)
@@ -129,7 +134,7 @@ module _ (t : Numbering) (N : List Grant) (x : Row) (room : t .full ≡ false) (
       len : length N' ≡ length N + 1
       len = length-more N g
 
-      size : length (t .rows) ≡ 64
+      size : length (t .rows) ≡ grants
       size = R .places
 
       rows-old : (i : ℕ) → (i ≡ t .count → ⊥) → getD (set (t .rows) (t .count) x) i noRow ≡ getD (t .rows) i noRow
@@ -163,12 +168,12 @@ module _ (t : Numbering) (N : List Grant) (x : Row) (room : t .full ≡ false) (
           ap (writeRow N') (sym (rows-old i (λ (q : i ≡ t .count). omega arith))))
           (new-at ∙ sym (row-ext N (g ∷ []) small x B) ∙ ap (writeRow N') (sym rows-new))
 
-      depths' : (i : ℕ) → i < t .count + 1 → depth (getD N' i noGrant) ≤ 4
-      depths' = each (λ i. depth (getD N' i noGrant) ≤ 4)
-          (λ i l. subst (λ (w : Grant). depth w ≤ 4) (sym (old-at i (omega arith))) (R .depths i l))
-          (subst (λ (w : Grant). depth w ≤ 4) (sym new-at) D)
+      depths' : (i : ℕ) → i < t .count + 1 → depth (getD N' i noGrant) ≤ depths
+      depths' = each (λ i. depth (getD N' i noGrant) ≤ depths)
+          (λ i l. subst (λ (w : Grant). depth w ≤ depths) (sym (old-at i (omega arith))) (R .depths i l))
+          (subst (λ (w : Grant). depth w ≤ depths) (sym new-at) D)
 
-      all : Shown (more .rows) (more .count) N'
+      all : Shown (more .table .rows) (more .table .count) N'
       all = record {
         places = length-set (t .rows) (t .count) x ∙ size;
         counted = ap (λ (n : ℕ). n + 1) cnt ∙ sym len;
@@ -180,13 +185,13 @@ module _ (t : Numbering) (N : List Grant) (x : Row) (room : t .full ≡ false) (
         depths = depths';
       }
 
-      rw-put : has g N ≡ false → Put N g (record { table = more; no = record { 0 = t .count } })
+      rw-put : has g N ≡ false → Put N g (record { numbering = more; no = record { 0 = t .count } })
       rw-put e = record {
         good = rw e (tied room all);
         names = λ f. rw e (omega (arith, len, cnt), new-at);
       }
 
-  put-over : ((i : ℕ) → i < length N → getD N i noGrant ≡ writeRow N x → ⊥) → 64 ≤ t .count → Put N (writeRow N x) (record { table = record { rows = t .rows; count = t .count; full = true }; no = record { 0 = 0 } })
+  put-over : ((i : ℕ) → i < length N → getD N i noGrant ≡ writeRow N x → ⊥) → grants ≤ t .count → Put N (writeRow N x) (record { numbering = record { table = t; full = true }; no = record { 0 = 0 } })
   unfolding add Names
   put-over new le =
       let e = not-has new in
@@ -195,16 +200,16 @@ module _ (t : Numbering) (N : List Grant) (x : Row) (room : t .full ≡ false) (
       let len = length-more N (writeRow N x) in
       record { good = rw e (over refl (omega arith) (omega arith)); names = λ f. absurd (no-true (sym f)) }
 
-  pub put : Put N (writeRow N x) (entered t x)
+  pub put : Put N (writeRow N x) (entered u x)
   unfolding entered more
   put = go (find-cases (t .rows) x (t .count))
     where
-      go : Found (t .rows) x 0 (t .count) (findRow (t .rows) x 0 (t .count)) ⊎ ((findRow (t .rows) x 0 (t .count) ≡ t .count) × Missing (t .rows) x 0 (t .count)) → Put N (writeRow N x) (entered t x)
+      go : Found (t .rows) x 0 (t .count) (findRow (t .rows) x 0 (t .count)) ⊎ ((findRow (t .rows) x 0 (t .count) ≡ t .count) × Missing (t .rows) x 0 (t .count)) → Put N (writeRow N x) (entered u x)
       go (inl f) = rw (lt-ltb _ _ (f .high)) (put-old (findRow (t .rows) x 0 (t .count)) (f .high) (f .there))
-      go (inr f) = rw (f .0, le-ltb (t .count) (t .count) (omega arith)) (room-or (ltb (t .count) 64) refl (put-new (f .1)))
+      go (inr f) = rw (f .0, le-ltb (t .count) (t .count) (omega arith)) (room-or (ltb (t .count) grants) refl (put-new (f .1)))
         where
-          room-or : (b : Bool) → ltb (t .count) 64 ≡ b → ((i : ℕ) → i < length N → getD N i noGrant ≡ writeRow N x → ⊥) →
-              Put N (writeRow N x) (cond (ltb (t .count) 64) (record { table = record { rows = set (t .rows) (t .count) x; count = t .count + 1; full = t .full }; no = record { 0 = t .count } })
-              (record { table = record { rows = t .rows; count = t .count; full = true }; no = record { 0 = 0 } }))
+          room-or : (b : Bool) → ltb (t .count) grants ≡ b → ((i : ℕ) → i < length N → getD N i noGrant ≡ writeRow N x → ⊥) →
+              Put N (writeRow N x) (cond (ltb (t .count) grants) (record { numbering = record { table = withRow t x; full = u .full }; no = record { 0 = t .count } })
+              (record { numbering = record { table = t; full = true }; no = record { 0 = 0 } }))
           room-or true q new = rw q (put-more new (ltb-true _ _ q))
           room-or false q new = rw q (put-over new (ltb-false _ _ q))

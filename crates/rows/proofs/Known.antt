@@ -6,6 +6,7 @@ use mathlib.Core.Path.{_≡_, refl, sym, ap, subst, _∙_}
 use mathlib.Core.Logic.{inl, inr}
 use native.Mathlib.Omega.{arith}
 use lib.ListN.{length, getD}
+use Rattle.sorts.specs.Numbers.{grants}
 use Rattle.sorts.specs.declared.Res as r
 use Rattle.sorts.specs.declared.Res.the-variants.{Issue, Run, Export}
 use Rattle.sorts.specs.declared.Concl as rc
@@ -39,7 +40,7 @@ condsIn N (also p c cs) = conclIn N c × condsIn N cs
 abbrev grantIn : List Grant → Grant → Type 0
 grantIn N (grant v r cs c) = condsIn N cs × conclIn N c
 
-module _ (N : List Grant) (small : length N ≤ 64) where
+module _ (N : List Grant) (small : length N ≤ grants) where
   res-in : (x : r.Res) → ResBelow (length N) x → rightIn N (writeRes N x)
   res-in (Issue g) (inl l) = subst (rightIn N) (sym (write-issue N (g .0) (omega arith))) (has-in (getD N (g .0) noGrant) N (g .0) l refl)
   res-in (Issue g) (inr e) = subst (rightIn N) (sym (write-any N (g .0) e)) tt
@@ -102,7 +103,7 @@ numbered-known {rows} {count} {N} R g e = known N (shown-in R) g e
 
 -- a row's conclusion, written out and with its grants as their numbers again
 
-module _ (N : List Grant) (small : length N ≤ 64) (dis : Distinct N) where
+module _ (N : List Grant) (small : length N ≤ grants) (dis : Distinct N) where
   res-back : (x : r.Res) → ResBelow (length N) x → resOf N (writeRes N x) ≡ x
   res-back (Issue g) (inl l) =
       ap (resOf N) (write-issue N (g .0) (omega arith)) ∙ ap Issue (grant-is (record { 0 = place (getD N (g .0) noGrant) N }) g (place-is (getD N (g .0) noGrant) N dis (g .0) l refl))

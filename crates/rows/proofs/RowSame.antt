@@ -6,6 +6,7 @@ use native.Mathlib.Omega.{arith}
 use lib.ListN.{length, getD}
 use lib.Seq.{ext-getD}
 use borrow.Author.Tests.{eqb-true, eq-eqb}
+use Rattle.sorts.specs.Numbers.{conditions}
 use Rattle.sorts.specs.declared.Res.{Res}
 use Rattle.sorts.specs.declared.Res.the-variants.{Issue, Run, Export}
 use Rattle.sorts.specs.declared.Concl.{Concl}
@@ -85,7 +86,7 @@ at4 P a b c d (suc (suc (suc (suc i)))) h = absurd (omega arith)
 pub row-path : (a b : Row) → a .prins ≡ b .prins → a .res ≡ b .res → a .count ≡ b .count → a .conds ≡ b .conds → a .head ≡ b .head → a ≡ b
 row-path a b p q r s t = λ i. record { prins = p i; res = q i; count = r i; conds = s i; head = t i }
 
-pub row-eq : (a b : Row) → length (a .conds) ≡ 4 → length (b .conds) ≡ 4 → sameRow a b ≡ true → a ≡ b
+pub row-eq : (a b : Row) → length (a .conds) ≡ conditions → length (b .conds) ≡ conditions → sameRow a b ≡ true → a ≡ b
 unfolding sameRow
 row-eq a b la lb e =
     let e1 = both-2 _ _ e in

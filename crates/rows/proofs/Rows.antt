@@ -9,6 +9,7 @@ use lib.ListN.{length, getD, List·getD-append}
 use lib.Seq.{ext-getD}
 use lib.Dec.{eqb, ltb}
 use borrow.Author.Tests.{eqb-true, eqb-false, eq-eqb, ne-eqb, ltb-true, ltb-false}
+use Rattle.sorts.specs.Numbers.{conditions, grants}
 use Rattle.sorts.specs.declared.Res as r
 use Rattle.sorts.specs.declared.Res.the-variants.{Issue, Run, Export}
 use Rattle.sorts.specs.declared.Concl as rc
@@ -37,7 +38,7 @@ ConclBelow n (Property k p) = Unit {0}
 ConclBelow n (Perm p x) = ResBelow n x
 
 pub record RowBelow (n : ℕ) (x : Row) : Type 0 where
-  pub places : length (x .conds) ≡ 4
+  pub places : length (x .conds) ≡ conditions
   pub used : (j : ℕ) → j < x .count → ConclBelow n (getD (x .conds) j blankCond .what)
   pub unused : (j : ℕ) → x .count ≤ j → getD (x .conds) j blankCond ≡ blankCond
   pub head : ConclBelow n (x .head)
@@ -75,7 +76,7 @@ write-issue N g l = rw (ne-eqb g 128 (λ (e : g ≡ 128). omega arith))
 
 -- more numbers change nothing that is written out
 
-module _ (N X : List Grant) (small : length N ≤ 64) where
+module _ (N X : List Grant) (small : length N ≤ grants) where
   res-ext : (x : r.Res) → ResBelow (length N) x → writeRes (N ++ X) x ≡ writeRes N x
   res-ext (Issue g) (inl l) =
       write-issue (N ++ X) (g .0) (omega arith) ∙ ap issue (List·getD-append N X noGrant (g .0) l) ∙ sym (write-issue N (g .0) (omega arith))
@@ -99,7 +100,7 @@ module _ (N X : List Grant) (small : length N ≤ 64) where
 
 -- a row written out tells the row
 
-module _ (N : List Grant) (small : length N ≤ 64) (dis : Distinct N) where
+module _ (N : List Grant) (small : length N ≤ grants) (dis : Distinct N) where
   issue-inj : (g h : ℕ) → (g < length N) ⊎ (g ≡ 128) → (h < length N) ⊎ (h ≡ 128) → writeRes N (Issue (record { 0 = g })) ≡ writeRes N (Issue (record { 0 = h })) → g ≡ h
   issue-inj g h (inl a) (inl b) e =
       let d : issue (getD N g noGrant) ≡ issue (getD N h noGrant) = sym (write-issue N g (omega arith)) ∙ e ∙ write-issue N h (omega arith) in

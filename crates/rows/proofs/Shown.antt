@@ -9,6 +9,7 @@ use lib.ListN.{length, getD, take, drop, length-append, replicate, getD-replicat
 use lib.Seq.{getD-append-seam, take-suc, length-take-le, take-length}
 use lib.Dec.{ltb}
 use borrow.Author.Tests.{ltb-true, ltb-false}
+use Rattle.sorts.specs.Numbers.{depths, grants}
 use Rattle.sorts.specs.declared.Row.{Row}
 use Rattle.sorts.specs.Blank.{blankRow, noRow}
 use Rattle.rows.specs.declared.Table.{Table}
@@ -19,14 +20,14 @@ use Rattle.rows.proofs.Place.{Distinct}
 use Rattle.rows.proofs.Rows.{RowBelow, form-below, below-up, row-ext, row-inj}
 
 pub record Shown (rows : List Row) (count : ℕ) (N : List Grant) : Type 0 where
-  pub places : length rows ≡ 64
+  pub places : length rows ≡ grants
   pub counted : count ≡ length N
-  pub small : count ≤ 64
+  pub small : count ≤ grants
   pub used : (i : ℕ) → i < count → RowForm i (getD rows i noRow)
-  pub unused : (i : ℕ) → count ≤ i → i < 64 → getD rows i noRow ≡ blankRow
+  pub unused : (i : ℕ) → count ≤ i → i < grants → getD rows i noRow ≡ blankRow
   pub written : (i : ℕ) → i < count → getD N i noGrant ≡ writeRow N (getD rows i noRow)
   pub distinct : Distinct N
-  pub depths : (i : ℕ) → i < count → depth (getD N i noGrant) ≤ 4
+  pub depths : (i : ℕ) → i < count → depth (getD N i noGrant) ≤ depths
 
 pub length-more : (N : List Grant) (g : Grant) → length (N ++ (g ∷ [])) ≡ length N + 1
 length-more N g = length-append N (g ∷ [])
@@ -81,7 +82,7 @@ module _ (t : Table) (f : TableForm t) where
       g : Grant
       g = writeRow (out k) (rowAt k)
 
-      small : length (out k) ≤ 64
+      small : length (out k) ≤ grants
       small = omega (arith, out-length (t .rows) k, f .count)
 
       go : (b : Bool) → ltb i k ≡ b → (i < k → getD (out k) i noGrant ≡ writeRow (out k) (rowAt i)) → getD (out k ++ (g ∷ [])) i noGrant ≡ writeRow (out k ++ (g ∷ [])) (rowAt i)
@@ -163,17 +164,17 @@ module _ {rows : List Row} {count : ℕ} {N : List Grant} (R : Shown rows count 
     distinct = λ i j hi hj e.
         let c = R .counted in
         R .distinct i j (omega arith) (omega arith) (R .written i hi ∙ ap (writeRow N) e ∙ sym (R .written j hj));
-    depths = λ i h. subst (λ (M : List Grant). depth (getD M i noGrant) ≤ 4) (sym shown-out) (R .depths i h);
+    depths = λ i h. subst (λ (M : List Grant). depth (getD M i noGrant) ≤ depths) (sym shown-out) (R .depths i h);
   }
 
 -- The blank table is in form, and shows nothing.
-pub blank-shown : Shown (replicate 64 blankRow) 0 []
+pub blank-shown : Shown (replicate grants blankRow) 0 []
 blank-shown = record {
-  places = length-replicate 64 blankRow;
+  places = length-replicate grants blankRow;
   counted = refl;
   small = omega arith;
   used = λ i l. absurd (not-suc-le-zero l);
-  unused = λ i l h. getD-replicate 64 i blankRow noRow h;
+  unused = λ i l h. getD-replicate grants i blankRow noRow h;
   written = λ i l. absurd (not-suc-le-zero l);
   distinct = λ i j l. absurd (not-suc-le-zero l);
   depths = λ i l. absurd (not-suc-le-zero l);

@@ -6,33 +6,33 @@ use sorts::Res;
 use sorts::Row;
 ghost use mathlib.Core.Path.{_≡_};
 ghost use Prim.Native.Nat.{_≤_, _<_};
+ghost use Rattle.sorts.specs.Numbers.{grants};
 ghost use Rattle.rows.specs.inner.Lookup.{sameRes, sameConcl, sameCond, sameRow, findRow, entered};
 
 // The book's rows and the count of the numbers given.
 pub struct Table {
-    pub rows: [Row; 64],
+    pub rows: [Row; Table::ROWS],
     pub count: usize,
 }
 
 // A table while a record's grants are numbered; `full` where a grant found no number left.
 pub struct Numbering {
-    pub rows: [Row; 64],
-    pub count: usize,
+    pub table: Table,
     pub full: bool,
 }
 
-// A table with a row in it, and the row's number.
+// A numbering with a row in it, and the row's number.
 pub struct Entered {
-    pub table: Numbering,
+    pub numbering: Numbering,
     pub no: GrantNo,
 }
 
 impl Table {
-    pub const ROWS: usize = 64;
+    pub const ROWS: usize = GrantNo::COUNT as usize;
 }
 
 // Whether two resources are the same.
-pub fn same_res(a: Res, b: Res) -> bool
+fn same_res(a: Res, b: Res) -> bool
     ensures { λ r. ⌜ r ≡ sameRes a b ⌝ }
 {
     match a {
@@ -111,8 +111,8 @@ pub fn same_row(a: Row, b: Row) -> bool
 }
 
 // The number of row r among those given; the count where it has none.
-pub fn find(t: Numbering, r: Row) -> usize
-    requires { ⌜ t .count ≤ 64 ⌝ }
+fn find(t: Table, r: Row) -> usize
+    requires { ⌜ t .count ≤ grants ⌝ }
     ensures { λ n. ⌜ n ≡ findRow (t .rows) r 0 (t .count) ⌝ }
 {
     let n = t.count;
@@ -128,38 +128,34 @@ pub fn find(t: Numbering, r: Row) -> usize
 }
 
 // Row r with its number: the one it has, or the lowest not given.
-pub fn enter(t: Numbering, r: Row) -> Entered
-    requires { ⌜ t .count ≤ 64 ⌝ }
-    ensures { λ n. ⌜ n ≡ entered t r ⌝ }
-    ensures small { λ n. ⌜ n .table .count ≤ 64 ⌝ }
-    ensures inside { λ n. ⌜ n .no .0 < 64 ⌝ }
+pub fn enter(u: Numbering, r: Row) -> Entered
+    requires { ⌜ u .table .count ≤ grants ⌝ }
+    ensures { λ n. ⌜ n ≡ entered u r ⌝ }
+    ensures small { λ n. ⌜ n .numbering .table .count ≤ grants ⌝ }
+    ensures inside { λ n. ⌜ n .no .0 < grants ⌝ }
 {
+    let t = u.table;
     let n = t.count;
     let at = find(t, r);
     if at < n {
         return Entered {
-            table: t,
+            numbering: u,
             no: GrantNo(at as u8),
         };
     }
     if n < Table::ROWS {
         let mut rows = t.rows;
         rows[n] = r;
-        let full = t.full;
+        let more = Table { rows, count: n + 1 };
+        let full = u.full;
         return Entered {
-            table: Numbering {
-                rows,
-                count: n + 1,
-                full,
-            },
+            numbering: Numbering { table: more, full },
             no: GrantNo(n as u8),
         };
     }
-    let rows = t.rows;
     Entered {
-        table: Numbering {
-            rows,
-            count: n,
+        numbering: Numbering {
+            table: t,
             full: true,
         },
         no: GrantNo(0),

@@ -1,6 +1,8 @@
 -- The ways in which a grant stands, and where a book has them.
 use Prim.Native.Nat.{ℕ, _+_, _*_, _<_}
+use mathlib.Core.Bool.{Bool}
 use mathlib.Core.List.{List}
+use lib.Dec.{eqb}
 use lib.ListN.{getD}
 use Rattle.sorts.specs.Numbers.{speakers, grants}
 use Rattle.sorts.specs.declared.Status.{Status}
@@ -21,6 +23,10 @@ StatusForm (Issued p) = p .0 < speakers
 abbrev pub flagOf : Status → ℕ
 flagOf Trusted = 0
 flagOf (Issued p) = 1 + p .0
+
+-- Two statuses are the same when they have the same flag.
+abbrev pub sameStatus : Status → Status → Bool
+sameStatus by by′ = eqb (flagOf by) (flagOf by′)
 
 -- The flag that says whether grant g stands so.
 abbrev pub flagPlace : Status → ℕ → ℕ

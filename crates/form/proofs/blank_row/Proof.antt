@@ -3,7 +3,7 @@ use borrow.Author.Needs.{needs}
 use borrow.Author.Tests.{not-true, not-false}
 use Rattle.sorts.specs.declared.Row.{Row}
 use Rattle.form.proofs.Alike.{row-blank}
-use Rattle.form.proofs.Deciding.{length-mapped}
+use Rattle.rows.proofs.Deciding.{length-mapped}
 use Rattle.form.proofs.blank_row.Statement.{statement}
 use Rattle.form.proofs.blank_row.Tie as tie
 

@@ -2,7 +2,7 @@ use borrow.Author.Needs.{needs}
 use borrow.Author.Tests.{not-true, not-false}
 use native.Mathlib.Omega.{arith}
 use Rattle.form.proofs.Parts.{row-decides}
-use Rattle.form.proofs.Deciding.{length-mapped}
+use Rattle.rows.proofs.Deciding.{length-mapped}
 use Rattle.form.proofs.row_ok.Statement.{statement}
 use Rattle.form.proofs.row_ok.Tie as tie
 

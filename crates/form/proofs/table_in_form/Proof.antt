@@ -1,7 +1,7 @@
 use borrow.Author.Needs.{needs}
 use borrow.Author.Tests.{not-true, not-false}
 use native.Mathlib.Omega.{arith}
-use Rattle.form.proofs.Deciding.{length-mapped}
+use Rattle.rows.proofs.Deciding.{length-mapped}
 use Rattle.form.proofs.Parts.{table-decides}
 use Rattle.form.proofs.table_in_form.Statement.{statement}
 use Rattle.form.proofs.table_in_form.Tie as tie

@@ -4,8 +4,9 @@ use lib.ListN.{getD}
 use borrow.Author.Needs.{needs}
 use borrow.Author.Tests.{not-true, not-false}
 use native.Mathlib.Omega.{arith}
+use Rattle.sorts.specs.Numbers.{conditions}
 use Rattle.sorts.specs.Blank.{blankCond}
-use Rattle.form.proofs.Deciding.{each-more, length-mapped}
+use Rattle.rows.proofs.Deciding.{each-more, length-mapped}
 use Rattle.form.proofs.Alike.{blank-after}
 use Rattle.form.proofs.unused_conds_ok.Statement.{statement}
 use Rattle.form.proofs.unused_conds_ok.Tie as tie
@@ -14,7 +15,7 @@ abbrev Inv-loop : tie.InvT-loop
 Inv-loop x j₀ j = (x .count ≤ j) × ((k : ℕ) → k < j → x .count ≤ k → getD (x .conds) k blankCond ≡ blankCond)
 
 abbrev μ-loop : tie.MeasureT-loop
-μ-loop x j₀ j = 4 - j
+μ-loop x j₀ j = conditions - j
 
 cast-j : tie.Need-cast-j Inv-loop μ-loop
 cast-j c = search needs

@@ -3,9 +3,10 @@ use mathlib.Core.Path.{_≡_}
 use lib.ListN.{getD}
 use borrow.Author.Needs.{needs}
 use borrow.Author.Tests.{not-true, not-false}
+use Rattle.sorts.specs.Numbers.{grants}
 use Rattle.sorts.specs.Blank.{blankRow, noRow}
 use native.Mathlib.Omega.{arith}
-use Rattle.form.proofs.Deciding.{each-more}
+use Rattle.rows.proofs.Deciding.{each-more}
 use Rattle.form.proofs.unused_rows_ok.Statement.{statement}
 use Rattle.form.proofs.unused_rows_ok.Tie as tie
 
@@ -13,7 +14,7 @@ abbrev Inv-loop : tie.InvT-loop
 Inv-loop t i₀ i = (t .count ≤ i) × ((k : ℕ) → k < i → t .count ≤ k → getD (t .rows) k noRow ≡ blankRow)
 
 abbrev μ-loop : tie.MeasureT-loop
-μ-loop t i₀ i = 64 - i
+μ-loop t i₀ i = grants - i
 
 loop-holds : tie.Need-loop-holds Inv-loop μ-loop
 loop-holds c = (search needs, λ k l h. absurd (omega arith))

@@ -5,7 +5,7 @@ use borrow.Author.Tests.{not-true, not-false}
 use Rattle.sorts.specs.Blank.{blankCond}
 use Rattle.sorts.specs.RowForm.{CondForm}
 use native.Mathlib.Omega.{arith}
-use Rattle.form.proofs.Deciding.{each-more}
+use Rattle.rows.proofs.Deciding.{each-more}
 use Rattle.form.proofs.used_conds_ok.Statement.{statement}
 use Rattle.form.proofs.used_conds_ok.Tie as tie
 

@@ -5,7 +5,7 @@ use borrow.Author.Tests.{not-true, not-false}
 use Rattle.sorts.specs.Blank.{noRow}
 use Rattle.sorts.specs.RowForm.{RowForm}
 use native.Mathlib.Omega.{arith}
-use Rattle.form.proofs.Deciding.{each-more}
+use Rattle.rows.proofs.Deciding.{each-more}
 use Rattle.form.proofs.used_rows_ok.Statement.{statement}
 use Rattle.form.proofs.used_rows_ok.Tie as tie
 

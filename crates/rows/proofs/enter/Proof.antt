@@ -7,8 +7,8 @@ use Rattle.rows.proofs.enter.Tie as tie
 find-requires : tie.Need-find-requires
 find-requires c κs = search needs
 
-cast-t9 : tie.Need-cast-t9
-cast-t9 c = search needs
+cast-t10 : tie.Need-cast-t10
+cast-t10 c = search needs
 
 returns : tie.Need-returns
 unfolding entered
@@ -20,11 +20,11 @@ mul-rows c = search needs
 array-set-from-rows : tie.Need-array-set-from-rows
 array-set-from-rows c = search needs
 
-add-t11 : tie.Need-add-t11
-add-t11 c = search needs
+add-t12 : tie.Need-add-t12
+add-t12 c = search needs
 
-cast-t16 : tie.Need-cast-t16
-cast-t16 c = search needs
+cast-t17 : tie.Need-cast-t17
+cast-t17 c = search needs
 
 returns-2 : tie.Need-returns-2
 unfolding entered
@@ -32,18 +32,18 @@ returns-2 c = (rw (← (c .before .before .before .find) .ensures, le-ltb _ _ ((
 
 returns-3 : tie.Need-returns-3
 unfolding entered
-returns-3 c = (rw (← (c .before .before .before .find) .ensures, le-ltb _ _ ((c .before .before .if1) .left), le-ltb _ _ ((c .before .if2) .left)), (search needs, search needs))
+returns-3 c = (rw (← (c .before .before .find) .ensures, le-ltb _ _ ((c .before .if1) .left), le-ltb _ _ ((c .if2) .left)), (search needs, search needs))
 
 pub enter-spec : {M : Type 1} → statement M
 enter-spec =
     tie.close
     (tie.spec
     find-requires
-    cast-t9
+    cast-t10
     returns
     mul-rows
     array-set-from-rows
-    add-t11
-    cast-t16
+    add-t12
+    cast-t17
     returns-2
     returns-3)

@@ -4,6 +4,7 @@ use mathlib.Core.List.{List}
 use mathlib.Core.Bool.{Bool, true, false, cond}
 use lib.ListN.{getD, set}
 use lib.Dec.{ltb, eqb}
+use Rattle.sorts.specs.Numbers.{grants}
 use Rattle.sorts.specs.declared.Res.{Res}
 use Rattle.sorts.specs.declared.Res.the-variants.{Issue, Run, Export}
 use Rattle.sorts.specs.declared.Concl.{Concl}
@@ -11,6 +12,7 @@ use Rattle.sorts.specs.declared.Concl.the-variants.{Property, Perm}
 use Rattle.sorts.specs.declared.Cond.{Cond}
 use Rattle.sorts.specs.declared.Row.{Row}
 use Rattle.sorts.specs.Blank.{blankCond, noRow}
+use Rattle.rows.specs.declared.Table.{Table}
 use Rattle.rows.specs.declared.Numbering.{Numbering}
 use Rattle.rows.specs.declared.Entered.{Entered}
 
@@ -57,9 +59,13 @@ findFrom rows r i (suc n) = cond (sameRow (getD rows i noRow) r) i (findFrom row
 unfoldable pub findRow : List Row → Row → ℕ → ℕ → ℕ
 findRow rows r i count = cond (ltb i count) (findFrom rows r i (count - i)) count
 
+-- the table with r after its rows
+abbrev pub withRow : Table → Row → Table
+withRow t r = record { rows = set (t .rows) (t .count) r; count = t .count + 1 }
+
 unfoldable pub entered : Numbering → Row → Entered
-entered t r = cond (ltb (findRow (t .rows) r 0 (t .count)) (t .count))
-    (record { table = t; no = record { 0 = findRow (t .rows) r 0 (t .count) } })
-    (cond (ltb (t .count) 64)
-    (record { table = record { rows = set (t .rows) (t .count) r; count = t .count + 1; full = t .full }; no = record { 0 = t .count } })
-    (record { table = record { rows = t .rows; count = t .count; full = true }; no = record { 0 = 0 } }))
+entered u r = cond (ltb (findRow (u .table .rows) r 0 (u .table .count)) (u .table .count))
+    (record { numbering = u; no = record { 0 = findRow (u .table .rows) r 0 (u .table .count) } })
+    (cond (ltb (u .table .count) grants)
+    (record { numbering = record { table = withRow (u .table) r; full = u .full }; no = record { 0 = u .table .count } })
+    (record { numbering = record { table = u .table; full = true }; no = record { 0 = 0 } }))
