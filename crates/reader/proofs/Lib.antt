@@ -1,14 +1,2 @@
-pub mod Allowed
-pub mod Answers
-pub mod Exact
-pub mod Examples
-pub mod Faults
-pub mod Found
-pub mod Fuse
-pub mod Gives
 pub mod Marks
 pub mod Record
-pub mod Reread
-pub mod RowForms
-pub mod Spelled
-pub mod Steps

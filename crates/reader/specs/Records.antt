@@ -1,33 +1,58 @@
 -- Document 01, "Records", and refusals 1 and 2 at the two mark bytes.
-use Prim.Native.Nat.{ℕ}
+use Prim.Native.Nat.{ℕ, _-_}
 use mathlib.Core.Bool.{Bool, _&&_, cond}
-use mathlib.Core.List.{List}
+use mathlib.Core.List.{List, [], _∷_}
+use lib.ListN.{getD}
 use lib.Dec.{eqb}
+use Rattle.sorts.specs.declared.Status.{Status}
+use Rattle.sorts.specs.declared.Status.the-variants.{Trusted, Issued}
+use Rattle.sorts.specs.Numbers.{depths, speakers}
 use Rattle.rows.specs.Written.{Grant, Concl}
-use Rattle.reader.specs.declared.bytes.Scope.{Scope}
-use Rattle.reader.specs.Bytes.{Outcome, got, refused, andThen, byteAt, upto}
-use Rattle.reader.specs.Grants.{readGrant, readConcl}
+use Rattle.ranges.specs.declared.Scope.{Scope}
+use Rattle.reader.specs.declared.records.Kind.{Kind}
+use Rattle.reader.specs.declared.records.Kind.the-variants.{Tg, St, Li, Wd, Qu}
+use Rattle.ranges.specs.Bytes.{Outcome, got, refused, andThen, byteAt, upto}
+use Rattle.grants.specs.Grants.{readGrant, readConcl}
 
 -- "TG enters a trusted grant, ST strikes it: a grant follows. LI issues a licence, WD withdraws it: an issuer byte 00 to 0F,
--- then a grant. QU queries: one closed conclusion follows".
+-- then a grant. QU queries: one closed conclusion follows". So a record enters a grant with a status, removes one, or asks.
 pub data Record : Type 0 where
-  TG : Grant → Record
-  ST : Grant → Record
-  LI : ℕ → Grant → Record
-  WD : ℕ → Grant → Record
-  QU : Concl → Record
+  enter : Status → Grant → Record
+  remove : Status → Grant → Record
+  query : Concl → Record
 
 -- "Each opens with two letters in ASCII."
-abbrev pub letters : ℕ → ℕ → ℕ → ℕ → Bool
-letters a b x y = eqb a x && eqb b y
+abbrev pub lettersOf : Kind → List ℕ
+lettersOf Tg = 84 ∷ 71 ∷ []
+lettersOf St = 83 ∷ 84 ∷ []
+lettersOf Li = 76 ∷ 73 ∷ []
+lettersOf Wd = 87 ∷ 68 ∷ []
+lettersOf Qu = 81 ∷ 85 ∷ []
+
+-- all kinds, in the order in which the document lists them
+abbrev pub kinds : List Kind
+kinds = Tg ∷ St ∷ Li ∷ Wd ∷ Qu ∷ []
+
+-- whether these are a kind's letters
+abbrev pub opens : Kind → ℕ → ℕ → Bool
+opens k a b = eqb a (getD (lettersOf k) 0 0) && eqb b (getD (lettersOf k) 1 0)
+
+-- The first of some kinds that has the letters a and b, and the place n after them; 2: "the two mark bytes are none of the five".
+unfoldable pub kindWith : List Kind → ℕ → ℕ → ℕ → Outcome Kind
+kindWith [] a b n = refused 2
+kindWith (k ∷ ks) a b n = cond (opens k a b) (got k n) (kindWith ks a b n)
+
+-- The kind of a record. "fewer than two mark bytes is 1"
+unfoldable pub readMark : List ℕ → Outcome Kind
+readMark s = andThen (byteAt s 0) (λ a n1. andThen (byteAt s n1) (λ b n2. kindWith kinds a b n2))
 
 -- A grant after the mark, at depth 1.
 unfoldable pub readEntry : (Grant → Record) → List ℕ → ℕ → Outcome Record
-readEntry r s at = andThen (readGrant 4 s at) (λ g n. got (r g) n)
+readEntry r s at = andThen (readGrant depths s at) (λ g n. got (r g) n)
 
 -- An issuer byte and a grant after the mark.
-unfoldable pub readLicence : (ℕ → Grant → Record) → List ℕ → ℕ → Outcome Record
-readLicence r s at = andThen (upto 15 s at) (λ p n1. readEntry (r p) s n1)
+unfoldable pub readLicence : (Status → Grant → Record) → List ℕ → ℕ → Outcome Record
+readLicence r s at = andThen (upto (speakers - 1) s at) (λ p n. readEntry (r (Issued (record { 0 = p }))) s n)
 
 -- In a query "every variable is undeclared".
 abbrev pub nothingDeclared : Scope
@@ -35,18 +60,16 @@ nothingDeclared = record { prins = 0; res = 0 }
 
 -- A closed conclusion after the mark, in which "an inner grant is at depth 1".
 unfoldable pub readQuery : List ℕ → ℕ → Outcome Record
-readQuery s at = andThen (readConcl (readGrant 4 s) nothingDeclared s at) (λ c n. got (QU c) n)
+readQuery s at = andThen (readConcl (readGrant depths s) nothingDeclared s at) (λ c n. got (query c) n)
 
--- What follows the mark; 2: "the two mark bytes are none of the five".
-unfoldable pub readContent : ℕ → ℕ → List ℕ → ℕ → Outcome Record
-readContent a b s at =
-    cond (letters a b 84 71) (readEntry TG s at)
-    (cond (letters a b 83 84) (readEntry ST s at)
-    (cond (letters a b 76 73) (readLicence LI s at)
-    (cond (letters a b 87 68) (readLicence WD s at)
-    (cond (letters a b 81 85) (readQuery s at)
-    (refused 2)))))
+-- What follows the mark.
+unfoldable pub readContent : Kind → List ℕ → ℕ → Outcome Record
+readContent Tg s at = readEntry (enter Trusted) s at
+readContent St s at = readEntry (remove Trusted) s at
+readContent Li s at = readLicence enter s at
+readContent Wd s at = readLicence remove s at
+readContent Qu s at = readQuery s at
 
--- A record, which may be followed by others: what it asks and its length. "fewer than two mark bytes is 1"
+-- A record, which may be followed by others: what it asks and its length.
 unfoldable pub readRecord : List ℕ → Outcome Record
-readRecord s = andThen (byteAt s 0) (λ a n1. andThen (byteAt s n1) (λ b n2. readContent a b s n2))
+readRecord s = andThen (readMark s) (λ k n. readContent k s n)

@@ -8,18 +8,18 @@ use mathlib.Core.Option.{Option, none, some}
 use mathlib.Core.Logic.{_↔_}
 use lib.ListN.{length}
 use lib.Dec.{leb}
+use Rattle.sorts.specs.Numbers.{grants}
 use Rattle.rows.specs.declared.Table.{Table}
 use Rattle.rows.specs.Written.{Grant}
 use Rattle.rows.specs.Numbering.{place, has, number, numberConcl}
 use Rattle.rows.specs.Form.{conclOf, rowsOut, TableForm}
-use Rattle.reader.specs.declared.records.Standing.{Standing}
-use Rattle.reader.specs.declared.records.Standing.the-variants.{Trusted, Issued}
+use Rattle.sorts.specs.declared.Status.{Status}
 use Rattle.reader.specs.declared.records.Request.the-variants.{Enter, Remove, Query}
 use Rattle.reader.specs.declared.records.Found.{Found}
 use Rattle.reader.specs.declared.records.Found.the-variants.{Asks, Full, Unknown, Refused}
 use Rattle.reader.specs.declared.records.Reading.{Reading}
-use Rattle.reader.specs.Bytes.{Outcome, got, refused}
-use Rattle.reader.specs.Records.{Record, TG, ST, LI, WD, QU, readRecord}
+use Rattle.ranges.specs.Bytes.{Outcome, got, refused}
+use Rattle.reader.specs.Records.{Record, enter, remove, query, readRecord}
 use Rattle.reader.specs.inner.OneRecord.{numRecord}
 
 -- "If an answer is an enum, a definition gives this paper's number and values for each of its cases." What the reader finds is a
@@ -38,33 +38,29 @@ usedFound (Refused k) = 0
 
 -- "the grants that the record would number and those in N exceed 64": the list that they make is too long.
 abbrev pub fits : List Grant → Bool
-fits N = leb (length N) 64
+fits N = leb (length N) grants
 
 -- To enter g: its number is its place once it is numbered.
-abbrev pub entering : Standing → List Grant → Grant → ℕ → Found
+abbrev pub entering : Status → List Grant → Grant → ℕ → Found
 entering by N g n = cond (fits (number g N)) (Asks (Enter by (record { 0 = place g (number g N) })) n) (Full n)
 
 -- To remove g, where it has a number.
-abbrev pub removing : Standing → List Grant → Grant → ℕ → Found
+abbrev pub removing : Status → List Grant → Grant → ℕ → Found
 removing by N g n = cond (has g N) (Asks (Remove by (record { 0 = place g N })) n) (Unknown n)
 
 -- What the reader finds where the grants N are numbered.
 unfoldable pub foundOf : List Grant → Outcome Record → Found
 foundOf N (refused k) = Refused k
-foundOf N (got (TG g) n) = entering Trusted N g n
-foundOf N (got (ST g) n) = removing Trusted N g n
-foundOf N (got (LI p g) n) = entering (Issued (record { 0 = p })) N g n
-foundOf N (got (WD p g) n) = removing (Issued (record { 0 = p })) N g n
-foundOf N (got (QU c) n) = cond (fits (numberConcl c N)) (Asks (Query (conclOf (numberConcl c N) c)) n) (Full n)
+foundOf N (got (enter by g) n) = entering by N g n
+foundOf N (got (remove by g) n) = removing by N g n
+foundOf N (got (query c) n) = cond (fits (numberConcl c N)) (Asks (Query (conclOf (numberConcl c N) c)) n) (Full n)
 
 -- The grants numbered after it.
 unfoldable pub numberedBy : List Grant → Outcome Record → List Grant
 numberedBy N (refused k) = N
-numberedBy N (got (TG g) n) = cond (fits (number g N)) (number g N) N
-numberedBy N (got (ST g) n) = N
-numberedBy N (got (LI p g) n) = cond (fits (number g N)) (number g N) N
-numberedBy N (got (WD p g) n) = N
-numberedBy N (got (QU c) n) = cond (fits (numberConcl c N)) (numberConcl c N) N
+numberedBy N (got (enter by g) n) = cond (fits (number g N)) (number g N) N
+numberedBy N (got (remove by g) n) = N
+numberedBy N (got (query c) n) = cond (fits (numberConcl c N)) (numberConcl c N) N
 
 -- Whether what was found gives numbers.
 abbrev pub numbers : Found → Bool
@@ -79,21 +75,19 @@ numbers (Refused k) = false
 -- record would number and those in N exceed 64"; 7 for the removal of a grant that has no number.
 abbrev pub TurnedBack : List Grant → Outcome Record → ℕ → Type 0
 TurnedBack N (refused j) k = j ≡ k
-TurnedBack N (got (TG g) n) k = (fits (number g N) ≡ false) × (k ≡ 6)
-TurnedBack N (got (ST g) n) k = (has g N ≡ false) × (k ≡ 7)
-TurnedBack N (got (LI p g) n) k = (fits (number g N) ≡ false) × (k ≡ 6)
-TurnedBack N (got (WD p g) n) k = (has g N ≡ false) × (k ≡ 7)
-TurnedBack N (got (QU c) n) k = (fits (numberConcl c N) ≡ false) × (k ≡ 6)
+TurnedBack N (got (enter by g) n) k = (fits (number g N) ≡ false) × (k ≡ 6)
+TurnedBack N (got (remove by g) n) k = (has g N ≡ false) × (k ≡ 7)
+TurnedBack N (got (query c) n) k = (fits (numberConcl c N) ≡ false) × (k ≡ 6)
 
 -- THE PROMISE of the reader, over any table: a count above 64 is out of form, 9; over a table in form the answer and the rows,
 -- written out, are what the two functions say, each number under its condition and no other, and the table left is in form; a
 -- record that gives no numbers leaves the table as it was, in form or not. Over any table with a count up to 64, in form or not,
 -- it is the one pass over the rows as they are.
 pub record Reads (s : List ℕ) (t : Table) (r : Reading) : Type 0 where
-  pub over : 64 < t .count → r ≡ record { table = t; found = Refused 9 }
+  pub over : grants < t .count → r ≡ record { table = t; found = Refused 9 }
   pub found : TableForm t → r .found ≡ foundOf (rowsOut (t .rows) (t .count)) (readRecord s)
   pub rows : TableForm t → rowsOut (r .table .rows) (r .table .count) ≡ numberedBy (rowsOut (t .rows) (t .count)) (readRecord s)
   pub refusals : TableForm t → (k : ℕ) → (numberFound (r .found) ≡ some k) ↔ TurnedBack (rowsOut (t .rows) (t .count)) (readRecord s) k
   pub form : TableForm t → TableForm (r .table)
   pub kept : numbers (r .found) ≡ false → r .table ≡ t
-  pub within : t .count ≤ 64 → r ≡ numRecord s t
+  pub within : t .count ≤ grants → r ≡ numRecord s t

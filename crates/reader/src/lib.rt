@@ -1,4 +1,2 @@
-// The reader of records: bytes, grants with the numbers of their inner grants, and whole records.
-pub mod bytes;
-pub mod grants;
+// The reader of records.
 pub mod records;

@@ -1,59 +1,45 @@
 // Whole records: the two mark bytes, and what follows them.
-use crate::bytes;
-use crate::bytes::Got;
-use crate::bytes::Scope;
-use crate::grants;
-use crate::grants::ConclOut;
-use crate::grants::GrantOut;
+use grants::ConclOut;
+use grants::GrantOut;
+use ranges::Got;
+use ranges::Scope;
 use rows::Numbering;
 use rows::Table;
 use sorts::Concl;
 use sorts::GrantNo;
 use sorts::Prin;
 use sorts::Refusal;
+use sorts::Row;
+use sorts::Status;
 ghost use mathlib.Core.Path.{_≡_};
 ghost use Prim.Native.Nat.{_≤_};
-ghost use lib.ListN.{getD};
-ghost use Rattle.reader.specs.Records.{letters};
+ghost use Rattle.sorts.specs.Numbers.{grants};
+ghost use Rattle.reader.specs.Records.{lettersOf, kinds, opens, kindWith, readMark};
 ghost use Rattle.reader.specs.Requests.{Reads};
-ghost use Rattle.reader.specs.inner.OneRecord.{starting, finished, kindAt, asMark, markAt, numEntry, numRemoval, numQuery, numLicence, numContent};
+ghost use Rattle.reader.specs.inner.OneRecord.{starting, asMark, noR, given, numEntry, known, numRemoval, numQuery, numLicence, numContent};
 
-pub const TG: [u8; 2] = *b"TG";
+// The last principal who may issue.
+const LAST_ISSUER: u8 = Prin::SPEAKERS - 1;
 
-pub const ST: [u8; 2] = *b"ST";
-
-pub const LI: [u8; 2] = *b"LI";
-
-pub const WD: [u8; 2] = *b"WD";
-
-pub const QU: [u8; 2] = *b"QU";
-
-// The kinds of record, by their marks; Other has none of the five.
+// The kinds of record.
 pub enum Kind {
     Tg,
     St,
     Li,
     Wd,
     Qu,
-    Other,
 }
 
-// A record's kind, or the number of the refusal.
+// A record's kind with the place after its mark, or the number of the refusal.
 pub enum MarkOut {
-    Got(Kind),
+    Got(Kind, usize),
     No(u8),
-}
-
-// How a grant stands: trusted, or issued by a principal.
-pub enum Standing {
-    Trusted,
-    Issued(Prin),
 }
 
 // What a record asks, with each grant as its number: to enter or to remove a trusted grant or a licence, or an answer.
 pub enum Request {
-    Enter(Standing, GrantNo),
-    Remove(Standing, GrantNo),
+    Enter(Status, GrantNo),
+    Remove(Status, GrantNo),
     Query(Concl),
 }
 
@@ -74,171 +60,174 @@ pub struct Reading {
 
 // The table before the first grant of a record is numbered.
 fn start(t: Table) -> Numbering
-    ensures { λ r. ⌜ r ≡ starting t ⌝ }
+    ensures { λ u. ⌜ u ≡ starting t ⌝ }
 {
-    let rows = t.rows;
     Numbering {
-        rows,
-        count: t.count,
+        table: t,
         full: false,
     }
 }
 
-// The table after the last grant of a record was numbered.
-fn finish(u: Numbering) -> Table
-    ensures { λ t. ⌜ t ≡ finished u ⌝ }
-{
-    let rows = u.rows;
-    Table {
-        rows,
-        count: u.count,
+impl Kind {
+    // The marks: the two letters with which a record opens.
+    pub const TG: [u8; 2] = *b"TG";
+
+    pub const ST: [u8; 2] = *b"ST";
+
+    pub const LI: [u8; 2] = *b"LI";
+
+    pub const WD: [u8; 2] = *b"WD";
+
+    pub const QU: [u8; 2] = *b"QU";
+
+    // How many kinds there are.
+    pub const COUNT: usize = 5;
+
+    // The letters of a kind.
+    pub fn letters(self) -> [u8; 2]
+        ensures { λ m. ⌜ m ≡ lettersOf self ⌝ }
+    {
+        match self {
+            Kind::Tg => Kind::TG,
+            Kind::St => Kind::ST,
+            Kind::Li => Kind::LI,
+            Kind::Wd => Kind::WD,
+            Kind::Qu => Kind::QU,
+        }
+    }
+
+    // Whether a and b are its letters.
+    fn opens(self, a: u8, b: u8) -> bool
+        ensures { λ r. ⌜ r ≡ opens self a b ⌝ }
+    {
+        let m = self.letters();
+        if a == m[0] { b == m[1] } else { false }
     }
 }
 
-// Whether a and b are the two letters of a mark.
-fn is_mark(a: u8, b: u8, m: [u8; 2]) -> bool
-    ensures { λ r. ⌜ r ≡ letters a b (getD m 0 0) (getD m 1 0) ⌝ }
+// The kind that two letters say, where n is the place after them.
+fn kind_of(a: u8, b: u8, n: usize) -> MarkOut
+    ensures { λ r. ⌜ r ≡ asMark (kindWith kinds a b n) ⌝ }
 {
-    if a == m[0] { b == m[1] } else { false }
-}
-
-// The kind that two letters say.
-fn kind_of(a: u8, b: u8) -> Kind
-    ensures { λ k. ⌜ k ≡ kindAt a b ⌝ }
-{
-    if is_mark(a, b, TG) {
-        return Kind::Tg;
+    let all = [Kind::Tg, Kind::St, Kind::Li, Kind::Wd, Kind::Qu];
+    let mut i = 0;
+    while i < Kind::COUNT {
+        let k = all[i];
+        if k.opens(a, b) {
+            return MarkOut::Got(k, n);
+        }
+        i += 1;
     }
-    if is_mark(a, b, ST) {
-        return Kind::St;
-    }
-    if is_mark(a, b, LI) {
-        return Kind::Li;
-    }
-    if is_mark(a, b, WD) {
-        return Kind::Wd;
-    }
-    if is_mark(a, b, QU) {
-        return Kind::Qu;
-    }
-    Kind::Other
+    MarkOut::No(Refusal::MARK)
 }
 
 // The kind of the record that s starts with.
 pub fn read_mark(s: &[u8]) -> MarkOut
-    ensures { λ r. ⌜ r ≡ asMark (markAt (now (s .entry))) ⌝ }
+    ensures { λ r. ⌜ r ≡ asMark (readMark (now (s .entry))) ⌝ }
 {
     if s.len() < 2 {
         return MarkOut::No(Refusal::MISSING);
     }
     let a = s[0];
     let b = s[1];
-    MarkOut::Got(kind_of(a, b))
+    kind_of(a, b, 2)
 }
 
-// A grant to enter, numbered where it is new; nothing is numbered where the numbers do not reach.
-fn read_entry(s: &[u8], at: usize, by: Standing, t: Table) -> Reading
-    requires { ⌜ t .count ≤ 64 ⌝ }
-    ensures { λ r. ⌜ r ≡ numEntry by (now (s .entry)) at t ⌝ }
+// A record that is refused, which leaves the table.
+fn refused(t: Table, k: u8) -> Reading
+    ensures { λ r. ⌜ r ≡ noR t k ⌝ }
 {
-    let g = grants::read_grant(s, at, 4, start(t));
-    let u = g.table;
-    let o = g.out;
-    match o {
-        GrantOut::Refused(k) => Reading {
-            table: t,
-            found: Found::Refused(k),
-        },
-        GrantOut::Got(no, n) => {
-            if u.full {
-                return Reading {
-                    table: t,
-                    found: Found::Full(n),
-                };
-            }
-            Reading {
-                table: finish(u),
-                found: Found::Asks(Request::Enter(by, no), n),
-            }
-        }
+    Reading {
+        table: t,
+        found: Found::Refused(k),
     }
 }
 
-// A grant to remove; nothing is numbered.
-fn read_removal(s: &[u8], at: usize, by: Standing, t: Table) -> Reading
-    requires { ⌜ t .count ≤ 64 ⌝ }
-    ensures { λ r. ⌜ r ≡ numRemoval by (now (s .entry)) at t ⌝ }
+// A request that numbers its grants, where u is the table with them; nothing is numbered where the numbers do not reach.
+fn given(t: Table, u: Numbering, q: Request, n: usize) -> Reading
+    ensures { λ r. ⌜ r ≡ given t u q n ⌝ }
 {
-    let g = grants::read_grant(s, at, 4, start(t));
-    let u = g.table;
+    if u.full {
+        return Reading {
+            table: t,
+            found: Found::Full(n),
+        };
+    }
+    let table = u.table;
+    Reading {
+        table,
+        found: Found::Asks(q, n),
+    }
+}
+
+// A grant to enter, numbered where it is new.
+fn read_entry(s: &[u8], at: usize, by: Status, t: Table) -> Reading
+    requires { ⌜ t .count ≤ grants ⌝ }
+    ensures { λ r. ⌜ r ≡ numEntry by (now (s .entry)) at t ⌝ }
+{
+    let g = grants::read_grant(s, at, Row::DEPTHS, start(t));
+    let u = g.numbering;
     let o = g.out;
     match o {
-        GrantOut::Refused(k) => Reading {
+        GrantOut::Refused(k) => refused(t, k),
+        GrantOut::Got(no, n) => given(t, u, Request::Enter(by, no), n),
+    }
+}
+
+// What is found of a grant to remove, where `count` numbers were given before it was numbered: it must have one of them.
+fn known(count: usize, full: bool, by: Status, no: GrantNo, n: usize) -> Found
+    ensures { λ r. ⌜ r ≡ known count full by no n ⌝ }
+{
+    if full {
+        return Found::Unknown(n);
+    }
+    if count <= no.0 as usize {
+        return Found::Unknown(n);
+    }
+    Found::Asks(Request::Remove(by, no), n)
+}
+
+// A grant to remove; nothing is numbered.
+fn read_removal(s: &[u8], at: usize, by: Status, t: Table) -> Reading
+    requires { ⌜ t .count ≤ grants ⌝ }
+    ensures { λ r. ⌜ r ≡ numRemoval by (now (s .entry)) at t ⌝ }
+{
+    let g = grants::read_grant(s, at, Row::DEPTHS, start(t));
+    let u = g.numbering;
+    let o = g.out;
+    match o {
+        GrantOut::Refused(k) => refused(t, k),
+        GrantOut::Got(no, n) => Reading {
             table: t,
-            found: Found::Refused(k),
+            found: known(t.count, u.full, by, no, n),
         },
-        GrantOut::Got(no, n) => {
-            if u.full {
-                return Reading {
-                    table: t,
-                    found: Found::Unknown(n),
-                };
-            }
-            if t.count <= no.0 as usize {
-                return Reading {
-                    table: t,
-                    found: Found::Unknown(n),
-                };
-            }
-            Reading {
-                table: t,
-                found: Found::Asks(Request::Remove(by, no), n),
-            }
-        }
     }
 }
 
 // The closed conclusion of a query, its grants numbered where they are new.
 fn read_query(s: &[u8], at: usize, t: Table) -> Reading
-    requires { ⌜ t .count ≤ 64 ⌝ }
+    requires { ⌜ t .count ≤ grants ⌝ }
     ensures { λ r. ⌜ r ≡ numQuery (now (s .entry)) at t ⌝ }
 {
     let nothing = Scope { prins: 0, res: 0 };
-    let c = grants::read_concl(s, at, 4, nothing, start(t));
-    let u = c.table;
+    let c = grants::read_concl(s, at, Row::DEPTHS, nothing, start(t));
+    let u = c.numbering;
     let o = c.out;
     match o {
-        ConclOut::Refused(k) => Reading {
-            table: t,
-            found: Found::Refused(k),
-        },
-        ConclOut::Got(what, n) => {
-            if u.full {
-                return Reading {
-                    table: t,
-                    found: Found::Full(n),
-                };
-            }
-            Reading {
-                table: finish(u),
-                found: Found::Asks(Request::Query(what), n),
-            }
-        }
+        ConclOut::Refused(k) => refused(t, k),
+        ConclOut::Got(what, n) => given(t, u, Request::Query(what), n),
     }
 }
 
 // What follows the mark of a licence to issue or to withdraw: the issuer and the grant.
 fn read_licence(s: &[u8], at: usize, enters: bool, t: Table) -> Reading
-    requires { ⌜ t .count ≤ 64 ⌝ }
+    requires { ⌜ t .count ≤ grants ⌝ }
     ensures { λ r. ⌜ r ≡ numLicence enters (now (s .entry)) at t ⌝ }
 {
-    match bytes::read_upto(15, s, at) {
-        Got::No(k) => Reading {
-            table: t,
-            found: Found::Refused(k),
-        },
+    match ranges::read_upto(LAST_ISSUER, s, at) {
+        Got::No(k) => refused(t, k),
         Got::Byte(p, n) => {
-            let by = Standing::Issued(Prin(p));
+            let by = Status::Issued(Prin(p));
             if enters {
                 read_entry(s, n, by, t)
             } else {
@@ -249,20 +238,16 @@ fn read_licence(s: &[u8], at: usize, enters: bool, t: Table) -> Reading
 }
 
 // What follows the mark.
-fn read_content(k: Kind, s: &[u8], t: Table) -> Reading
-    requires { ⌜ t .count ≤ 64 ⌝ }
-    ensures { λ r. ⌜ r ≡ numContent k (now (s .entry)) t ⌝ }
+fn read_content(k: Kind, s: &[u8], at: usize, t: Table) -> Reading
+    requires { ⌜ t .count ≤ grants ⌝ }
+    ensures { λ r. ⌜ r ≡ numContent k (now (s .entry)) at t ⌝ }
 {
     match k {
-        Kind::Tg => read_entry(s, 2, Standing::Trusted, t),
-        Kind::St => read_removal(s, 2, Standing::Trusted, t),
-        Kind::Li => read_licence(s, 2, true, t),
-        Kind::Wd => read_licence(s, 2, false, t),
-        Kind::Qu => read_query(s, 2, t),
-        Kind::Other => Reading {
-            table: t,
-            found: Found::Refused(Refusal::MARK),
-        },
+        Kind::Tg => read_entry(s, at, Status::Trusted, t),
+        Kind::St => read_removal(s, at, Status::Trusted, t),
+        Kind::Li => read_licence(s, at, true, t),
+        Kind::Wd => read_licence(s, at, false, t),
+        Kind::Qu => read_query(s, at, t),
     }
 }
 
@@ -271,16 +256,10 @@ pub fn read_record(s: &[u8], t: Table) -> Reading
     ensures { λ r. ⌜ Reads (now (s .entry)) t r ⌝ }
 {
     if Table::ROWS < t.count {
-        return Reading {
-            table: t,
-            found: Found::Refused(Refusal::FORM),
-        };
+        return refused(t, Refusal::FORM);
     }
     match read_mark(s) {
-        MarkOut::No(k) => Reading {
-            table: t,
-            found: Found::Refused(k),
-        },
-        MarkOut::Got(k) => read_content(k, s, t),
+        MarkOut::No(k) => refused(t, k),
+        MarkOut::Got(k, n) => read_content(k, s, n, t),
     }
 }

@@ -1,60 +1,55 @@
-use mathlib.Core.Path.{sym, _∙_}
-use Rattle.reader.specs.inner.OneRecord.{kindAt}
+use Prim.Native.Nat.{_≤_, _-_}
+use mathlib.Core.Path.{_≡_, refl, sym, ap, _∙_}
+use lib.ListN.{length, drop}
+use Rattle.reader.specs.Records.{kinds, kindWith}
+use Rattle.reader.specs.inner.OneRecord.{asMark}
+use Rattle.reader.proofs.Marks.{kind-here, kind-on, kind-end}
 use borrow.Author.Needs.{needs}
 use Rattle.reader.proofs.records.kind_of.Statement.{statement}
 use Rattle.reader.proofs.records.kind_of.Tie as tie
 
-is-mark-requires : tie.Need-is-mark-requires
-is-mark-requires c κs = search needs
+abbrev Inv-loop : tie.InvT-loop
+Inv-loop a b n all i₀ i = (i ≤ length kinds) × (kindWith kinds a b n ≡ kindWith (drop i kinds) a b n)
 
-returns : tie.Need-returns
-unfolding kindAt
-returns c = rw (sym (c .before .is-mark .ensures) ∙ c .if1 .taken)
+abbrev μ-loop : tie.MeasureT-loop
+μ-loop a b n all i₀ i = length kinds - i
 
-is-mark-requires-2 : tie.Need-is-mark-requires-2
-is-mark-requires-2 c κs = search needs
+loop-holds : tie.Need-loop-holds Inv-loop μ-loop
+loop-holds c = (search needs, refl)
 
-returns-2 : tie.Need-returns-2
-unfolding kindAt
-returns-2 c = rw (sym (c .before .before .before .is-mark .ensures) ∙ c .before .before .if1 .left, sym (c .before .is-mark2 .ensures) ∙ c .if2 .taken)
+array-copy-out-k : tie.Need-array-copy-out-k Inv-loop μ-loop
+array-copy-out-k c = search needs
 
-is-mark-requires-3 : tie.Need-is-mark-requires-3
-is-mark-requires-3 c κs = search needs
+opens-requires : tie.Need-opens-requires Inv-loop μ-loop
+opens-requires c κs = search needs
 
-returns-3 : tie.Need-returns-3
-unfolding kindAt
-returns-3 c = rw (sym (c .before .before .before .before .before .is-mark .ensures) ∙ c .before .before .before .before .if1 .left, sym (c .before .before .before .is-mark2 .ensures) ∙ c .before .before .if2 .left, sym (c .before .is-mark3 .ensures) ∙ c .if3 .taken)
+returns : tie.Need-returns Inv-loop μ-loop
+unfolding asMark
+returns c = sym (ap asMark ((c .before .before .before .before .loop) .inv .1 ∙ kind-here _ _ _ ((c .before .before .before .before .loop) .i) (search needs) (sym ((c .before .opens) .ensures) ∙ (c .if1) .taken)))
 
-is-mark-requires-4 : tie.Need-is-mark-requires-4
-is-mark-requires-4 c κs = search needs
+add-i : tie.Need-add-i Inv-loop μ-loop
+add-i c = search needs
 
-returns-4 : tie.Need-returns-4
-unfolding kindAt
-returns-4 c = rw (sym (c .before .before .before .before .before .before .before .is-mark .ensures) ∙ c .before .before .before .before .before .before .if1 .left, sym (c .before .before .before .before .before .is-mark2 .ensures) ∙ c .before .before .before .before .if2 .left, sym (c .before .before .before .is-mark3 .ensures) ∙ c .before .before .if3 .left, sym (c .before .is-mark4 .ensures) ∙ c .if4 .taken)
+loop-less : tie.Need-loop-less Inv-loop μ-loop
+loop-less c = search needs
 
-is-mark-requires-5 : tie.Need-is-mark-requires-5
-is-mark-requires-5 c κs = search needs
+loop-again : tie.Need-loop-again Inv-loop μ-loop
+loop-again c = (search needs, (c .before .before .before .before .loop) .inv .1 ∙ kind-on _ _ _ ((c .before .before .before .before .loop) .i) (search needs) (sym ((c .before .opens) .ensures) ∙ (c .if1) .left))
 
-returns-5 : tie.Need-returns-5
-unfolding kindAt
-returns-5 c = rw (sym (c .before .before .before .before .before .before .before .before .before .is-mark .ensures) ∙ c .before .before .before .before .before .before .before .before .if1 .left, sym (c .before .before .before .before .before .before .before .is-mark2 .ensures) ∙ c .before .before .before .before .before .before .if2 .left, sym (c .before .before .before .before .before .is-mark3 .ensures) ∙ c .before .before .before .before .if3 .left, sym (c .before .before .before .is-mark4 .ensures) ∙ c .before .before .if4 .left, sym (c .before .is-mark5 .ensures) ∙ c .if5 .taken)
-
-returns-6 : tie.Need-returns-6
-unfolding kindAt
-returns-6 c = rw (sym (c .before .before .before .before .before .before .before .before .before .is-mark .ensures) ∙ c .before .before .before .before .before .before .before .before .if1 .left, sym (c .before .before .before .before .before .before .before .is-mark2 .ensures) ∙ c .before .before .before .before .before .before .if2 .left, sym (c .before .before .before .before .before .is-mark3 .ensures) ∙ c .before .before .before .before .if3 .left, sym (c .before .before .before .is-mark4 .ensures) ∙ c .before .before .if4 .left, sym (c .before .is-mark5 .ensures) ∙ c .if5 .left)
+returns-2 : tie.Need-returns-2 Inv-loop μ-loop
+returns-2 c = kind-end _ _ _ ((c .before .loop) .i) (search needs) (search needs) ∙ sym (ap asMark ((c .before .loop) .inv .1))
 
 pub kind-of-spec : {M : Type 1} → statement M
 kind-of-spec =
     tie.close
     (tie.spec
-    is-mark-requires
+    Inv-loop
+    μ-loop
+    loop-holds
+    array-copy-out-k
+    opens-requires
     returns
-    is-mark-requires-2
-    returns-2
-    is-mark-requires-3
-    returns-3
-    is-mark-requires-4
-    returns-4
-    is-mark-requires-5
-    returns-5
-    returns-6)
+    add-i
+    loop-less
+    loop-again
+    returns-2)

@@ -33,9 +33,6 @@ enum-told-5 c = search needs
 read-query-requires : tie.Need-read-query-requires
 read-query-requires c κs = search needs
 
-enum-told-6 : tie.Need-enum-told-6
-enum-told-6 c = search needs
-
 returns : tie.Need-returns
 unfolding numContent
 returns c = rw (c .before .enum-told .given .1) (c .read-entry .ensures)
@@ -56,10 +53,6 @@ returns-5 : tie.Need-returns-5
 unfolding numContent
 returns-5 c = rw (c .before .enum-told5 .given .1) (c .read-query .ensures)
 
-returns-6 : tie.Need-returns-6
-unfolding numContent
-returns-6 c = rw (c .enum-told6 .given .1)
-
 pub read-content-spec : {M : Type 1} → statement M
 read-content-spec =
     tie.close
@@ -74,10 +67,8 @@ read-content-spec =
     read-licence-requires-2
     enum-told-5
     read-query-requires
-    enum-told-6
     returns
     returns-2
     returns-3
     returns-4
-    returns-5
-    returns-6)
+    returns-5)

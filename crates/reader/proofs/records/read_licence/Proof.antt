@@ -1,6 +1,6 @@
 use mathlib.Core.Path.{sym, _∙_}
 use Rattle.reader.specs.inner.OneRecord.{numLicence}
-use Rattle.reader.proofs.Answers.{byte-got, byte-no}
+use Rattle.ranges.proofs.Answers.{byte-got, byte-no}
 use borrow.Author.Needs.{needs}
 use Rattle.reader.proofs.records.read_licence.Statement.{statement}
 use Rattle.reader.proofs.records.read_licence.Tie as tie
@@ -10,6 +10,9 @@ read-upto-requires c κs = search needs
 
 enum-known-k : tie.Need-enum-known-k
 enum-known-k c = search needs
+
+refused-requires : tie.Need-refused-requires
+refused-requires c κs = search needs
 
 enum-known-p : tie.Need-enum-known-p
 enum-known-p c = search needs
@@ -22,7 +25,7 @@ read-removal-requires c κs = search needs
 
 returns : tie.Need-returns
 unfolding numLicence
-returns c = rw (byte-no _ _ (sym ((c .before .before .before .read-upto) .ensures) ∙ c .before .k .given .1))
+returns c = rw (byte-no _ _ (sym ((c .before .before .before .before .read-upto) .ensures) ∙ c .before .before .k .given .1)) ((c .refused) .ensures)
 
 returns-2 : tie.Need-returns-2
 unfolding numLicence
@@ -38,6 +41,7 @@ read-licence-spec =
     (tie.spec
     read-upto-requires
     enum-known-k
+    refused-requires
     enum-known-p
     read-entry-requires
     read-removal-requires

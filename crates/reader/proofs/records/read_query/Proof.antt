@@ -12,23 +12,22 @@ read-concl-requires c κs = rw ((c .start) .ensures) (search needs)
 enum-known-o : tie.Need-enum-known-o
 enum-known-o c = search needs
 
+refused-requires : tie.Need-refused-requires
+refused-requires c κs = search needs
+
 enum-known-o-2 : tie.Need-enum-known-o-2
 enum-known-o-2 c = search needs
 
+given-requires : tie.Need-given-requires
+given-requires c κs = search needs
+
 returns : tie.Need-returns
 unfolding numQuery
-returns c = rw (← (c .before .before .before .before .before .before .start) .ensures, ← (c .before .before .before .before .before .read-concl) .ensures .0, (c .before .before .o2) .given .1, (c .if1) .taken)
-
-finish-requires : tie.Need-finish-requires
-finish-requires c κs = search needs
+returns c = rw (← (c .before .before .before .before .before .before .start) .ensures, ← (c .before .before .before .before .before .read-concl) .ensures .0, (c .before .before .o) .given .1) ((c .refused) .ensures)
 
 returns-2 : tie.Need-returns-2
 unfolding numQuery
-returns-2 c = rw (← (c .before .before .before .before .before .start) .ensures, ← (c .before .before .before .before .read-concl) .ensures .0, (c .before .o) .given .1)
-
-returns-3 : tie.Need-returns-3
-unfolding numQuery
-returns-3 c = rw (← (c .before .before .before .before .before .before .before .start) .ensures, ← (c .before .before .before .before .before .before .read-concl) .ensures .0, (c .before .before .before .o2) .given .1, (c .before .if1) .left, (c .finish) .ensures)
+returns-2 c = rw (← (c .before .before .before .before .before .before .start) .ensures, ← (c .before .before .before .before .before .read-concl) .ensures .0, (c .before .before .o2) .given .1) ((c .given) .ensures)
 
 pub read-query-spec : {M : Type 1} → statement M
 read-query-spec =
@@ -37,8 +36,8 @@ read-query-spec =
     start-requires
     read-concl-requires
     enum-known-o
+    refused-requires
     enum-known-o-2
+    given-requires
     returns
-    finish-requires
-    returns-2
-    returns-3)
+    returns-2)

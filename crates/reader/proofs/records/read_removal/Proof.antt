@@ -1,4 +1,3 @@
-use borrow.Author.Tests.{le-leb, lt-leb}
 use Rattle.reader.specs.inner.OneRecord.{numRemoval}
 use borrow.Author.Needs.{needs}
 use Rattle.reader.proofs.records.read_removal.Statement.{statement}
@@ -13,27 +12,22 @@ read-grant-requires c κs = rw ((c .start) .ensures) (search needs)
 enum-known-o : tie.Need-enum-known-o
 enum-known-o c = search needs
 
+refused-requires : tie.Need-refused-requires
+refused-requires c κs = search needs
+
 enum-known-o-2 : tie.Need-enum-known-o-2
 enum-known-o-2 c = search needs
 
+known-requires : tie.Need-known-requires
+known-requires c κs = search needs
+
 returns : tie.Need-returns
 unfolding numRemoval
-returns c = rw (← (c .before .before .before .before .before .before .start) .ensures, ← (c .before .before .before .before .before .read-grant) .ensures .0, (c .before .before .o2) .given .1, (c .if1) .taken)
-
-cast-if2 : tie.Need-cast-if2
-cast-if2 c = search needs
+returns c = rw (← (c .before .before .before .before .before .before .start) .ensures, ← (c .before .before .before .before .before .read-grant) .ensures .0, (c .before .before .o) .given .1) ((c .refused) .ensures)
 
 returns-2 : tie.Need-returns-2
 unfolding numRemoval
-returns-2 c = rw (← (c .before .before .before .before .before .before .before .before .before .start) .ensures, ← (c .before .before .before .before .before .before .before .before .read-grant) .ensures .0, (c .before .before .before .before .before .o2) .given .1, (c .before .before .before .if1) .left, le-leb _ _ ((c .if2) .taken))
-
-returns-3 : tie.Need-returns-3
-unfolding numRemoval
-returns-3 c = rw (← (c .before .before .before .before .before .start) .ensures, ← (c .before .before .before .before .read-grant) .ensures .0, (c .before .o) .given .1)
-
-returns-4 : tie.Need-returns-4
-unfolding numRemoval
-returns-4 c = rw (← (c .before .before .before .before .before .before .before .before .before .start) .ensures, ← (c .before .before .before .before .before .before .before .before .read-grant) .ensures .0, (c .before .before .before .before .before .o2) .given .1, (c .before .before .before .if1) .left, lt-leb _ _ ((c .if2) .left))
+returns-2 c = rw (← (c .before .before .before .before .before .before .start) .ensures, ← (c .before .before .before .before .before .read-grant) .ensures .0, (c .before .before .o2) .given .1, (c .known) .ensures)
 
 pub read-removal-spec : {M : Type 1} → statement M
 read-removal-spec =
@@ -42,9 +36,8 @@ read-removal-spec =
     start-requires
     read-grant-requires
     enum-known-o
+    refused-requires
     enum-known-o-2
+    known-requires
     returns
-    cast-if2
-    returns-2
-    returns-3
-    returns-4)
+    returns-2)

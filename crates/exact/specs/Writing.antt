@@ -1,0 +1,41 @@
+-- The bytes of a record, and which records can be read: what the theorems about the reader speak of.
+use Prim.Native.Nat.{ℕ, _≤_}
+use mathlib.Core.List.{List, [], _∷_, _++_}
+use Rattle.sorts.specs.declared.Status.{Status}
+use Rattle.sorts.specs.declared.Status.the-variants.{Trusted, Issued}
+use Rattle.sorts.specs.Numbers.{depths}
+use Rattle.sorts.specs.Flags.{StatusForm}
+use Rattle.rows.specs.Written.{written, writtenConcl}
+use Rattle.rows.specs.Form.{depth, depthConcl}
+use Rattle.rows.specs.Allowed.{Allowed, AllowedConcl}
+use Rattle.reader.specs.declared.records.Kind.{Kind}
+use Rattle.reader.specs.declared.records.Kind.the-variants.{Tg, St, Li, Wd, Qu}
+use Rattle.reader.specs.Records.{Record, enter, remove, query, lettersOf}
+
+-- "TG enters a trusted grant, ST strikes it"; "LI issues a licence, WD withdraws it"; "QU queries".
+abbrev pub kindOf : Record → Kind
+kindOf (enter Trusted g) = Tg
+kindOf (remove Trusted g) = St
+kindOf (enter (Issued p) g) = Li
+kindOf (remove (Issued p) g) = Wd
+kindOf (query c) = Qu
+
+-- What follows the mark: of a licence "an issuer byte 00 to 0F, then a grant"; of a trusted grant the grant.
+abbrev pub writtenStatus : Status → List ℕ
+writtenStatus Trusted = []
+writtenStatus (Issued p) = p .0 ∷ []
+
+abbrev pub contentOf : Record → List ℕ
+contentOf (enter by g) = writtenStatus by ++ written g
+contentOf (remove by g) = writtenStatus by ++ written g
+contentOf (query c) = writtenConcl c
+
+-- The bytes of a record: "Each opens with two letters in ASCII."
+unfoldable pub writtenRecord : Record → List ℕ
+writtenRecord r = lettersOf (kindOf r) ++ contentOf r
+
+-- The records that can be read: issuers, and allowed grants and conclusions that are not too deep; a query declares nothing.
+unfoldable pub AllowedRecord : Record → Type 0
+AllowedRecord (enter by g) = StatusForm by × Allowed g × (depth g ≤ depths)
+AllowedRecord (remove by g) = StatusForm by × Allowed g × (depth g ≤ depths)
+AllowedRecord (query c) = AllowedConcl 0 0 c × (depthConcl c ≤ depths)

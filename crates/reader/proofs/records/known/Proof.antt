@@ -1,0 +1,29 @@
+use borrow.Author.Tests.{le-leb, lt-leb}
+use Rattle.reader.specs.inner.OneRecord.{known}
+use borrow.Author.Needs.{needs}
+use Rattle.reader.proofs.records.known.Statement.{statement}
+use Rattle.reader.proofs.records.known.Tie as tie
+
+returns : tie.Need-returns
+unfolding known
+returns c = rw (c .if1 .taken)
+
+cast-if2 : tie.Need-cast-if2
+cast-if2 c = search needs
+
+returns-2 : tie.Need-returns-2
+unfolding known
+returns-2 c = rw (c .before .before .if1 .left, le-leb _ _ (c .if2 .taken))
+
+returns-3 : tie.Need-returns-3
+unfolding known
+returns-3 c = rw (c .before .before .if1 .left, lt-leb _ _ (c .if2 .left))
+
+pub known-spec : {M : Type 1} → statement M
+known-spec =
+    tie.close
+    (tie.spec
+    returns
+    cast-if2
+    returns-2
+    returns-3)
