@@ -1,4 +1,3 @@
 pub mod Rules
-pub mod RowForm
 pub mod Standing
 pub mod inner
