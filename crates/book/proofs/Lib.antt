@@ -3,7 +3,5 @@ pub mod Fits
 pub mod Following
 pub mod Forms
 pub mod Keeping
-pub mod Loops
-pub mod Net
 pub mod Sets
 pub mod Showing

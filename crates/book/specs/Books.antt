@@ -1,22 +1,18 @@
 -- A book, its form, and the state of the plain machine that it shows.
-use Prim.Native.Nat.{ℕ, _+_, _*_, _≤_, _<_}
+use Prim.Native.Nat.{ℕ, _*_, _≤_, _<_}
 use mathlib.Core.Path.{_≡_}
 use mathlib.Core.Bool.{Bool, true, cond}
 use mathlib.Core.List.{List}
 use lib.ListN.{length, getD}
+use Rattle.sorts.specs.declared.Status.{Status}
 use Rattle.sorts.specs.Numbers.{allMarks}
-use Rattle.rows.specs.declared.Table.{Table}
+use Rattle.sorts.specs.Flags.{StatusForm, rowFlags, allFlags, flag}
 use Rattle.rows.specs.Written.{Grant}
 use Rattle.rows.specs.Numbering.{has}
 use Rattle.rows.specs.Form.{rowsOut, TableForm}
-use Rattle.rules.specs.Rules.{flag}
 use Rattle.book.specs.declared.Book.{Book}
-use Rattle.book.specs.Machine.{State, Licence, hasLicence}
+use Rattle.book.specs.Machine.{State, stands}
 use Rattle.book.specs.Closed.{grantAt}
-
--- The book's rows and count.
-abbrev pub tableOf : Book → Table
-tableOf b = record { rows = b .rows; count = b .count }
 
 -- "A book is in form when it has 39,168 marks; marks and flags are 0 or 1; the count is at most 64; rows from the count on are
 -- blank with flags 0; every other row is in range, with unused conditions blank, distinct, of depth at most 4, uses only
@@ -24,10 +20,10 @@ tableOf b = record { rows = b .rows; count = b .count }
 pub record BookForm (b : Book) (m : List ℕ) : Type 0 where
   pub marks : length m ≡ allMarks
   pub markBits : (i : ℕ) → getD m i 0 ≤ 1
-  pub flags : length (b .flags) ≡ 1088
+  pub flags : length (b .flags) ≡ allFlags
   pub flagBits : (i : ℕ) → getD (b .flags) i 0 ≤ 1
-  pub table : TableForm (tableOf b)
-  pub unflagged : (i : ℕ) → 17 * b .count ≤ i → getD (b .flags) i 0 ≡ 0
+  pub table : TableForm (b .table)
+  pub unflagged : (i : ℕ) → rowFlags * b .table .count ≤ i → getD (b .flags) i 0 ≡ 0
 
 abbrev pub bit : Bool → ℕ
 bit is = cond is 1 0
@@ -35,8 +31,6 @@ bit is = cond is 1 0
 -- "The rows below the count, written out, are N in order, and the flags show T and L." What stands has a number, and every
 -- issuer is one of the 16.
 pub record Shows (b : Book) (M : State) : Type 0 where
-  pub rows : rowsOut (b .rows) (b .count) ≡ M .N
-  pub trusted : (g : ℕ) → g < length (M .N) → flag (b .flags) g 0 ≡ bit (has (grantAt M g) (M .T))
-  pub issued : (g p : ℕ) → g < length (M .N) → p < 16 → flag (b .flags) g (1 + p) ≡ bit (hasLicence (record { issuer = p; what = grantAt M g }) (M .L))
-  pub trustedIn : (g : Grant) → has g (M .T) ≡ true → has g (M .N) ≡ true
-  pub issuedIn : (x : Licence) → hasLicence x (M .L) ≡ true → (has (x .what) (M .N) ≡ true) × (x .issuer < 16)
+  pub rows : rowsOut (b .table .rows) (b .table .count) ≡ M .N
+  pub flags : (by : Status) (g : ℕ) → StatusForm by → g < length (M .N) → flag (b .flags) by g ≡ bit (stands M by (grantAt M g))
+  pub within : (by : Status) (g : Grant) → stands M by g ≡ true → (has g (M .N) ≡ true) × StatusForm by

@@ -13,18 +13,22 @@ use Rattle.book.specs.declared.Answer.the-variants.{Permitted, NotPermit
 use Rattle.book.specs.declared.Answered.{Answered}
 use Rattle.book.specs.Machine.{State, Verdict, changes, asks, refuses, step}
 use Rattle.book.specs.Books.{BookForm, Shows}
-use Rattle.book.specs.Counts.{countsOf}
+use Rattle.marks.specs.Counts.{countsOf}
 
--- The answer in document 01's terms, from what the machine says and the marks before and after: "QU reads its mark".
+-- "QU reads its mark": the answer for the closed conclusion with number c.
+abbrev pub answerAt : List ℕ → ℕ → Answer
+answerAt m c = cond (eqb (getD m c 0) 1) Permitted NotPermitted
+
+-- The answer in document 01's terms, from what the machine says and the marks before and after.
 unfoldable pub answerOf : Verdict → List ℕ → List ℕ → Answer
 answerOf changes m n = Changed (countsOf m n)
-answerOf (asks c) m n = cond (eqb (getD m c 0) 1) Permitted NotPermitted
+answerOf (asks c) m n = answerAt m c
 answerOf (refuses k) m n = Refused k
 
 -- "After an accepted TG, ST, LI or WD the marks are worked out from the rows, whichever marks stood." QU "changes no mark";
 -- "every refusal .. leaves rows, flags and marks unchanged".
 unfoldable pub marksAfter : Verdict → Book → List ℕ → List ℕ
-marksAfter changes b m = standing (b .rows) (b .flags)
+marksAfter changes b m = standing (b .table .rows) (b .flags)
 marksAfter (asks c) b m = m
 marksAfter (refuses k) b m = m
 

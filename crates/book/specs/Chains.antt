@@ -3,7 +3,8 @@ use Prim.Native.Nat.{ℕ}
 use mathlib.Core.List.{List, [], _∷_}
 use lib.ListN.{replicate}
 use Rattle.sorts.specs.Blank.{blankRow}
-use Rattle.sorts.specs.Numbers.{allMarks}
+use Rattle.sorts.specs.Numbers.{grants, allMarks}
+use Rattle.sorts.specs.Flags.{allFlags}
 use Rattle.book.specs.declared.Book.{Book}
 use Rattle.book.specs.declared.Answered.{Answered}
 use Rattle.book.specs.Machine.{State, step}
@@ -11,7 +12,7 @@ use Rattle.book.specs.Calls.{Called}
 
 -- "A fresh book has blank rows, count 0, and every flag and mark 0."
 abbrev pub freshBook : Book
-freshBook = record { rows = replicate 64 blankRow; count = 0; flags = replicate 1088 0 }
+freshBook = record { table = record { rows = replicate grants blankRow; count = 0 }; flags = replicate allFlags 0 }
 
 unfoldable pub freshMarks : List ℕ
 freshMarks = replicate allMarks 0

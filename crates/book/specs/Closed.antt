@@ -5,11 +5,12 @@ use mathlib.Core.Path.{_≡_}
 use mathlib.Core.Bool.{true}
 use lib.ListN.{length, getD}
 use Rattle.sorts.specs.declared.Row.{Row}
+use Rattle.sorts.specs.declared.Status.{Status}
+use Rattle.sorts.specs.declared.Status.the-variants.{Trusted, Issued}
 use Rattle.rows.specs.Written.{Grant}
-use Rattle.rows.specs.Numbering.{has}
 use Rattle.rows.specs.Form.{noGrant, rowOf}
 use Rattle.rules.specs.Rules.{ClosedUnder}
-use Rattle.book.specs.Machine.{State, hasLicence}
+use Rattle.book.specs.Machine.{State, stands}
 
 -- The grant with number g.
 abbrev pub grantAt : State → ℕ → Grant
@@ -19,13 +20,17 @@ grantAt M g = getD (M .N) g noGrant
 abbrev pub rowAt : State → ℕ → Row
 rowAt M g = rowOf (M .N) (grantAt M g)
 
--- The licence of p with the grant of number g stands.
-abbrev pub Licensed : State → ℕ → ℕ → Type 0
-Licensed M p g = (g < length (M .N)) × (hasLicence (record { issuer = p; what = grantAt M g }) (M .L) ≡ true)
-
--- The grant of number g is trusted.
-abbrev pub IsTrusted : State → ℕ → Type 0
-IsTrusted M g = (g < length (M .N)) × (has (grantAt M g) (M .T) ≡ true)
+-- It stands with that status.
+abbrev pub StandsAs : State → Status → ℕ → Type 0
+StandsAs M by g = (g < length (M .N)) × (stands M by (grantAt M g) ≡ true)
 
 abbrev pub ClosedSet : State → (ℕ → Type 0) → Type 0
-ClosedSet M S = ClosedUnder (rowAt M) (Licensed M) (IsTrusted M) S
+ClosedSet M S = ClosedUnder (rowAt M) (λ p g. StandsAs M (Issued (record { 0 = p })) g) (λ g. StandsAs M Trusted g) S
+
+-- A statement stands for the machine when it is in every closed set.
+abbrev pub Stands : State → ℕ → Type 1
+Stands M n = (S : ℕ → Type 0) → ClosedSet M S → S n
+
+-- Some closed set lacks it.
+abbrev pub Lacking : State → ℕ → Type 1
+Lacking M n = (S : ℕ → Type 0) × ClosedSet M S × (S n → ⊥)

@@ -1,6 +1,5 @@
 pub mod Machine
 pub mod Closed
-pub mod Counts
 pub mod Books
 pub mod Calls
 pub mod Chains

@@ -2,49 +2,50 @@
 use Prim.Native.Nat.{ℕ}
 use mathlib.Core.Bool.{Bool, true, false, _&&_, cond}
 use mathlib.Core.List.{List, [], _∷_, _++_}
-use lib.Dec.{eqb}
+use Rattle.sorts.specs.declared.Status.{Status}
 use Rattle.sorts.specs.Numbers.{numberOf}
+use Rattle.sorts.specs.Flags.{sameStatus}
 use Rattle.rows.specs.Written.{Grant, same}
-use Rattle.rows.specs.Numbering.{has, add, number, numberConcl}
+use Rattle.rows.specs.Numbering.{number, numberConcl}
 use Rattle.rows.specs.Form.{conclOf}
-use Rattle.reader.specs.Bytes.{Outcome, got, refused}
-use Rattle.reader.specs.Records.{Record, TG, ST, LI, WD, QU, readRecord}
+use Rattle.ranges.specs.Bytes.{Outcome, got, refused}
+use Rattle.reader.specs.Records.{Record, enter, remove, query, readRecord}
 use Rattle.reader.specs.Requests.{fits}
 
--- "L, a set of pairs of issuer and written grant"
-pub record Licence : Type 0 where
-  pub issuer : ℕ
+-- What stands: a grant with its status, trusted or issued by a principal.
+pub record Entry : Type 0 where
+  pub by : Status
   pub what : Grant
 
 -- "The plain machine has T, a set of written trusted grants; L, a set of pairs of issuer and written grant; N, the written
--- grants numbered, in order." The sets are lists in which only membership counts.
+-- grants numbered, in order." T and L are one set of entries: T the grants whose status is Trusted, L those issued by p, with
+-- p. A set is a list in which only membership counts.
 pub record State : Type 0 where
-  pub T : List Grant
-  pub L : List Licence
+  pub entries : List Entry
   pub N : List Grant
 
 -- "It starts with all three empty."
 abbrev pub start : State
-start = record { T = []; L = []; N = [] }
+start = record { entries = []; N = [] }
 
--- Sets of grants: `has` and `add` are those of numbering. What is removed is removed wherever it stands.
-unfoldable pub without : Grant → List Grant → List Grant
-without g [] = []
-without g (h ∷ T) = cond (same g h) (without g T) (h ∷ without g T)
+abbrev pub sameEntry : Entry → Entry → Bool
+sameEntry x y = sameStatus (x .by) (y .by) && same (x .what) (y .what)
 
-abbrev pub sameLicence : Licence → Licence → Bool
-sameLicence x y = eqb (x .issuer) (y .issuer) && same (x .what) (y .what)
+unfoldable pub member : Entry → List Entry → Bool
+member x [] = false
+member x (y ∷ E) = cond (sameEntry x y) true (member x E)
 
-unfoldable pub hasLicence : Licence → List Licence → Bool
-hasLicence x [] = false
-hasLicence x (y ∷ L) = cond (sameLicence x y) true (hasLicence x L)
+unfoldable pub insert : Entry → List Entry → List Entry
+insert x E = cond (member x E) E (E ++ (x ∷ []))
 
-unfoldable pub addLicence : Licence → List Licence → List Licence
-addLicence x L = cond (hasLicence x L) L (L ++ (x ∷ []))
+-- What is removed is removed wherever it stands.
+unfoldable pub delete : Entry → List Entry → List Entry
+delete x [] = []
+delete x (y ∷ E) = cond (sameEntry x y) (delete x E) (y ∷ delete x E)
 
-unfoldable pub withoutLicence : Licence → List Licence → List Licence
-withoutLicence x [] = []
-withoutLicence x (y ∷ L) = cond (sameLicence x y) (withoutLicence x L) (y ∷ withoutLicence x L)
+-- The grant stands with that status.
+abbrev pub stands : State → Status → Grant → Bool
+stands M by g = member (record { by = by; what = g }) (M .entries)
 
 -- What the machine says of a record: a change of what stands; a query, with the number of the conclusion to be looked up; or
 -- a refusal with its number.
@@ -67,25 +68,17 @@ refuse M k n = record { next = M; says = refuses k; used = n }
 -- in the order of numbering." 6: "the grants that the record would number and those in N exceed 64". 7: "the grant or licence
 -- to remove doesn't stand". "bytes used are the record's length for 6 and 7". A record of n bytes:
 unfoldable pub act : State → Record → ℕ → Step
-act M (TG g) n =
+act M (enter by g) n =
     cond (fits (number g (M .N)))
-    (record { next = record { T = add g (M .T); L = M .L; N = number g (M .N) }; says = changes; used = n })
+    (record { next = record { entries = insert (record { by = by; what = g }) (M .entries); N = number g (M .N) }; says = changes; used = n })
     (refuse M 6 n)
-act M (ST g) n =
-    cond (has g (M .T))
-    (record { next = record { T = without g (M .T); L = M .L; N = M .N }; says = changes; used = n })
+act M (remove by g) n =
+    cond (stands M by g)
+    (record { next = record { entries = delete (record { by = by; what = g }) (M .entries); N = M .N }; says = changes; used = n })
     (refuse M 7 n)
-act M (LI p g) n =
-    cond (fits (number g (M .N)))
-    (record { next = record { T = M .T; L = addLicence (record { issuer = p; what = g }) (M .L); N = number g (M .N) }; says = changes; used = n })
-    (refuse M 6 n)
-act M (WD p g) n =
-    cond (hasLicence (record { issuer = p; what = g }) (M .L))
-    (record { next = record { T = M .T; L = withoutLicence (record { issuer = p; what = g }) (M .L); N = M .N }; says = changes; used = n })
-    (refuse M 7 n)
-act M (QU c) n =
+act M (query c) n =
     cond (fits (numberConcl c (M .N)))
-    (record { next = record { T = M .T; L = M .L; N = numberConcl c (M .N) }; says = asks (numberOf (conclOf (numberConcl c (M .N)) c)); used = n })
+    (record { next = record { entries = M .entries; N = numberConcl c (M .N) }; says = asks (numberOf (conclOf (numberConcl c (M .N)) c)); used = n })
     (refuse M 6 n)
 
 -- "then the record from left to right, the first fault deciding"; bytes used are 0 for a fault.

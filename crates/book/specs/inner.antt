@@ -1,4 +1,2 @@
 -- Definitions that only the contracts of inner functions cite.
 pub mod Apply
-pub mod Most
-pub mod Renewal

@@ -1,48 +1,10 @@
 // Whether a lent book is in form.
 use crate::Book;
-use rows::Table;
+use marks::bits;
 use sorts::Number;
-ghost use mathlib.Core.Path.{_≡_};
-ghost use Prim.Native.Nat.{ℕ, _≤_};
-ghost use lib.ListN.{length, getD};
+use sorts::Status;
 ghost use Rattle.sorts.specs.Decides.{Decides};
 ghost use Rattle.book.specs.Books.{BookForm};
-ghost use Rattle.book.specs.inner.Most.{Most};
-
-// The larger of two bytes.
-fn larger(a: u8, b: u8) -> u8
-    ensures { λ r. ⌜ (a ≤ r) × (b ≤ r) × ((k : ℕ) → a ≤ k → b ≤ k → r ≤ k) ⌝ }
-{
-    if a <= b { b } else { a }
-}
-
-// The largest byte from a place on, 0 where there is none.
-fn most(s: &[u8], from: usize) -> u8
-    ensures { λ r. ⌜ Most (now (s .entry)) from r ⌝ }
-{
-    let n = s.len();
-    let mut m: u8 = 0;
-    let mut i = from;
-    while i < n {
-        m = larger(m, s[i]);
-        i += 1;
-    }
-    m
-}
-
-// Whether every byte is 0 or 1.
-fn bits(s: &[u8]) -> bool
-    ensures { λ r. ⌜ Decides r ((i : ℕ) → getD (now (s .entry)) i 0 ≤ 1) ⌝ }
-{
-    most(s, 0) <= 1
-}
-
-// Whether every byte from a place on is 0.
-fn zero_from(s: &[u8], from: usize) -> bool
-    ensures { λ r. ⌜ Decides r ((i : ℕ) → from ≤ i → getD (now (s .entry)) i 0 ≡ 0) ⌝ }
-{
-    most(s, from) == 0
-}
 
 // Whether the book and the marks lent with it are in form.
 pub fn in_form(b: Book, marks: &[u8]) -> bool
@@ -51,17 +13,16 @@ pub fn in_form(b: Book, marks: &[u8]) -> bool
     if marks.len() != Number::MARKS {
         return false;
     }
-    let rows = b.rows;
+    let t = b.table;
     let flags = b.flags;
-    let count = b.count;
-    if !form::table_in_form(Table { rows, count }) {
+    if !form::table_in_form(t) {
         return false;
     }
-    if !bits(marks) {
+    if !bits::bits(marks) {
         return false;
     }
-    if !bits(&flags) {
+    if !bits::bits(&flags) {
         return false;
     }
-    zero_from(&flags, Book::FLAGS * count)
+    bits::zero_from(&flags, Status::FLAGS * t.count)
 }

@@ -7,18 +7,19 @@ use native.Mathlib.Omega.{arith}
 use borrow.Author.Tests.{le-leb}
 use lib.IntN.{pos, _-ℤ_}
 use lib.ListN.{length}
+use Rattle.sorts.specs.declared.Status.{Status}
 use Rattle.rows.specs.Written.{Grant}
-use Rattle.rows.specs.Numbering.{has, add, number}
+use Rattle.rows.specs.Numbering.{has, number}
 use Rattle.rows.proofs.Known.{numbered-known}
-use Rattle.reader.specs.Bytes.{got}
-use Rattle.reader.specs.Records.{TG, LI, readRecord}
+use Rattle.ranges.specs.Bytes.{got}
+use Rattle.reader.specs.Records.{enter, readRecord}
 use Rattle.reader.specs.Requests.{fits}
 use Rattle.rules.specs.Standing.{standing}
 use Rattle.book.specs.declared.Book.{Book}
 use Rattle.book.specs.declared.Answer.the-variants.{Changed}
 use Rattle.book.specs.declared.Answered.{Answered}
-use Rattle.book.specs.Machine.{State, Licence, Verdict, Step, changes, refuse, act, acted, step, hasLicence, addLicence}
-use Rattle.book.specs.Counts.{gains, countsOf}
+use Rattle.book.specs.Machine.{State, Verdict, Step, changes, refuse, act, acted, step, insert, stands}
+use Rattle.marks.specs.Counts.{gains, countsOf}
 use Rattle.book.specs.Books.{Shows}
 use Rattle.book.specs.Calls.{answerOf, Called}
 use Rattle.demands.proofs.Balance.{none-gained}
@@ -33,7 +34,7 @@ module _ {b : Book} {m s : List ℕ} {r : Answered} {n : List ℕ} {M : State} (
   idle e h =
       let F = fol R C in
       let book : r .book ≡ b = same-book (F .form) (R .form) (subst (Shows (r .book)) h (F .shows)) (R .shows) in
-      let marks : n ≡ m = reached-after R C .stands ∙ ap (λ (x : Book). standing (x .rows) (x .flags)) book ∙ sym (R .stands) in
+      let marks : n ≡ m = reached-after R C .stands ∙ ap (λ (x : Book). standing (x .table .rows) (x .flags)) book ∙ sym (R .stands) in
       let z : gains m m ≡ 0 = none-gained m m (R .form .markBits) (R .form .markBits) (λ i x. x) in (
         book,
         marks,
@@ -47,32 +48,17 @@ module _ {b : Book} {m s : List ℕ} {r : Answered} {n : List ℕ} {M : State} (
   known : (g : Grant) → has g (M .N) ≡ true → number g (M .N) ≡ M .N
   known g = numbered-known (shown b m M (R .form) (R .shows)) g
 
-  pub enter-again : (g : Grant) (k : ℕ) → readRecord s ≡ got (TG g) k → has g (M .T) ≡ true →
+  pub enter-again : (by : Status) (g : Grant) (k : ℕ) → readRecord s ≡ got (enter by g) k → stands M by g ≡ true →
       (r .book ≡ b) × (n ≡ m) × (r .answer ≡ Changed (record { gained = 0; lost = 0; net = pos 0 }))
-  unfolding add step act
-  enter-again g k e t = idle (ap (λ (x : Step). x .says) all) (ap (λ (x : Step). x .next) all)
+  unfolding insert step act
+  enter-again by g k e t = idle (ap (λ (x : Step). x .says) all) (ap (λ (x : Step). x .next) all)
     where
-      same : add g (M .T) ≡ M .T
-      same = ap (λ (c : Bool). cond c (M .T) (M .T ++ (g ∷ []))) t
-
-      all : step M s ≡ record { next = M; says = changes; used = k }
-      all = ap (acted M) e ∙ ap (λ (c : Bool). cond c (record { next = record { T = add g (M .T); L = M .L; N = number g (M .N) }; says = changes; used = k }) (refuse M 6 k)) (ap (λ (l : List Grant). fits l) (known g (R .shows .trustedIn g t)) ∙ room) ∙
-          (λ i. record { next = record { T = same i; L = M .L; N = known g (R .shows .trustedIn g t) i }; says = changes; used = k })
-
-  pub issue-again : (p : ℕ) (g : Grant) (k : ℕ) → readRecord s ≡ got (LI p g) k → hasLicence (record { issuer = p; what = g }) (M .L) ≡ true →
-      (r .book ≡ b) × (n ≡ m) × (r .answer ≡ Changed (record { gained = 0; lost = 0; net = pos 0 }))
-  unfolding addLicence step act
-  issue-again p g k e t = idle (ap (λ (x : Step). x .says) all) (ap (λ (x : Step). x .next) all)
-    where
-      x : Licence
-      x = record { issuer = p; what = g }
-
-      same : addLicence x (M .L) ≡ M .L
-      same = ap (λ (c : Bool). cond c (M .L) (M .L ++ (x ∷ []))) t
+      same : insert (record { by = by; what = g }) (M .entries) ≡ M .entries
+      same = ap (λ (c : Bool). cond c (M .entries) (M .entries ++ (record { by = by; what = g } ∷ []))) t
 
       numbered : number g (M .N) ≡ M .N
-      numbered = known g (R .shows .issuedIn x t .0)
+      numbered = known g (R .shows .within by g t .0)
 
       all : step M s ≡ record { next = M; says = changes; used = k }
-      all = ap (acted M) e ∙ ap (λ (c : Bool). cond c (record { next = record { T = M .T; L = addLicence x (M .L); N = number g (M .N) }; says = changes; used = k }) (refuse M 6 k)) (ap (λ (l : List Grant). fits l) numbered ∙ room) ∙
-          (λ i. record { next = record { T = M .T; L = same i; N = numbered i }; says = changes; used = k })
+      all = ap (acted M) e ∙ ap (λ (c : Bool). cond c (record { next = record { entries = insert (record { by = by; what = g }) (M .entries); N = number g (M .N) }; says = changes; used = k }) (refuse M 6 k)) (ap (λ (l : List Grant). fits l) numbered ∙ room) ∙
+          (λ i. record { next = record { entries = same i; N = numbered i }; says = changes; used = k })

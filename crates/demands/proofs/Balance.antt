@@ -7,7 +7,7 @@ use native.Mathlib.Omega.{arith}
 use lib.ListN.{length, replicate}
 use lib.Dec.{eqb}
 use Rattle.rules.specs.Standing.{In, Above, Bits}
-use Rattle.book.specs.Counts.{risen, gains, ones}
+use Rattle.marks.specs.Counts.{risen, gains, ones}
 
 -- a mark that is 0 or 1 before and after
 one-balance : (a b : ℕ) → a ≤ 1 → b ≤ 1 → risen a b + cond (eqb a 1) 1 0 ≡ cond (eqb b 1) 1 0 + risen b a

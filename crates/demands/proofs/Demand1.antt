@@ -9,23 +9,23 @@ use native.Mathlib.Omega.{arith}
 use lib.IntN.{pos, _-ℤ_}
 use lib.ListN.{getD}
 use lib.Dec.{eqb}
-use Rattle.rows.specs.Numbering.{has, number, numberConcl}
+use Rattle.rows.specs.Numbering.{number, numberConcl}
 use Rattle.rows.proofs.Bytes.{no-true}
-use Rattle.reader.specs.Bytes.{Outcome, got, refused}
-use Rattle.reader.specs.Records.{Record, TG, ST, LI, WD, QU, readRecord}
+use Rattle.ranges.specs.Bytes.{Outcome, got, refused}
+use Rattle.reader.specs.Records.{Record, enter, remove, query, readRecord}
 use Rattle.reader.specs.Requests.{fits}
 use Rattle.book.specs.declared.Book.{Book}
-use Rattle.book.specs.declared.Counts.{Counts}
+use Rattle.marks.specs.declared.Counts.{Counts}
 use Rattle.book.specs.declared.Answer.{Answer}
 use Rattle.book.specs.declared.Answer.the-variants.{Permitted, NotPermitted, Changed, Refused}
 use Rattle.book.specs.declared.Answered.{Answered}
-use Rattle.book.specs.Machine.{State, Step, Verdict, changes, asks, refuses, refuse, act, acted, step, hasLicence}
-use Rattle.book.specs.Counts.{countsOf}
+use Rattle.book.specs.Machine.{State, Step, Verdict, changes, asks, refuses, refuse, act, acted, step, stands}
+use Rattle.marks.specs.Counts.{countsOf}
 use Rattle.demands.specs.Worth.{worth}
 use Rattle.book.specs.Books.{BookForm}
 use Rattle.book.specs.Calls.{answerOf, marksAfter, Follows, Called}
 use Rattle.demands.specs.Demands.{Turned, Answers, Demand1}
-use Rattle.reader.proofs.Faults.{fault-range}
+use Rattle.exact.proofs.Faults.{fault-range}
 use Rattle.demands.proofs.Shown.{shows-some}
 use Rattle.demands.proofs.Demand2.{answer-yes, answer-no}
 
@@ -55,20 +55,16 @@ module _ (M : State) (k : ℕ) where
 
   turned : (o : Outcome Record) → (acted M o .says ≡ refuses k) ↔ Turned M o k
   unfolding act
-  turned (got (TG g) n) = two _ accepts 6 n (fits (number g (M .N)))
-  turned (got (ST g) n) = two _ accepts 7 n (has g (M .T))
-  turned (got (LI p g) n) = two _ accepts 6 n (fits (number g (M .N)))
-  turned (got (WD p g) n) = two _ accepts 7 n (hasLicence (record { issuer = p; what = g }) (M .L))
-  turned (got (QU c) n) = two _ (λ i e. let z : _≡_ {A = ℕ} 0 1 = cc in omega arith) 6 n (fits (numberConcl c (M .N)))
+  turned (got (enter by g) n) = two _ accepts 6 n (fits (number g (M .N)))
+  turned (got (remove by g) n) = two _ accepts 7 n (stands M by g)
+  turned (got (query c) n) = two _ (λ i e. let z : _≡_ {A = ℕ} 0 1 = cc in omega arith) 6 n (fits (numberConcl c (M .N)))
   turned (refused j) = (λ e. let d : j ≡ k = cc in d, λ h. ap refuses h)
 
   -- a number that is said is 1 to 7
   turned-range : (s : List ℕ) (o : Outcome Record) → readRecord s ≡ o → Turned M o k → (1 ≤ k) × (k ≤ 7)
-  turned-range s (got (TG g) n) e h = (omega (arith, h .1), omega (arith, h .1))
-  turned-range s (got (ST g) n) e h = (omega (arith, h .1), omega (arith, h .1))
-  turned-range s (got (LI p g) n) e h = (omega (arith, h .1), omega (arith, h .1))
-  turned-range s (got (WD p g) n) e h = (omega (arith, h .1), omega (arith, h .1))
-  turned-range s (got (QU c) n) e h = (omega (arith, h .1), omega (arith, h .1))
+  turned-range s (got (enter by g) n) e h = (omega (arith, h .1), omega (arith, h .1))
+  turned-range s (got (remove by g) n) e h = (omega (arith, h .1), omega (arith, h .1))
+  turned-range s (got (query c) n) e h = (omega (arith, h .1), omega (arith, h .1))
   turned-range s (refused j) e h = let f = fault-range s j e in (omega (arith, h, f .0), omega (arith, h, f .1))
 
 -- what the answer says, by the verdict

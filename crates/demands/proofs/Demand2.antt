@@ -14,10 +14,10 @@ use Rattle.book.specs.declared.Book.{Book}
 use Rattle.book.specs.declared.Answer.the-variants.{Permitted, NotPermitted}
 use Rattle.book.specs.declared.Answered.{Answered}
 use Rattle.book.specs.Machine.{Verdict, asks, start, step}
-use Rattle.book.specs.Closed.{ClosedSet}
+use Rattle.book.specs.Closed.{ClosedSet, Lacking}
 use Rattle.book.specs.Calls.{answerOf, marksAfter, Called}
 use Rattle.book.specs.Chains.{freshBook, freshMarks, Call, Chain, records, runs}
-use Rattle.demands.specs.Demands.{Demand2, Lacking}
+use Rattle.demands.specs.Demands.{Demand2}
 use Rattle.demands.proofs.ClosedBook.{stands-in, stands-out}
 use Rattle.demands.proofs.Reached.{fresh-reached, fol, reached-after}
 use Rattle.demands.proofs.Demand3.{after}
@@ -49,7 +49,7 @@ demand-2 cs b m K s r n C c e =
     let M′ = step (runs start (records cs)) s .next in
     let a : r .answer ≡ cond (eqb (getD m c 0) 1) Permitted NotPermitted = F .answer ∙ ap (λ (v : Verdict). answerOf v m n) e in
     let k : n ≡ m = F .marks ∙ ap (λ (v : Verdict). marksAfter v (r .book) m) e in
-    let w : m ≡ standing (r .book .rows) (r .book .flags) = sym k ∙ R′ .stands in
+    let w : m ≡ standing (r .book .table .rows) (r .book .flags) = sym k ∙ R′ .stands in
     let i = stands-in (r .book) n M′ (R′ .form) (R′ .shows) c in
     let o = stands-out (r .book) n M′ (R′ .form) (R′ .shows) c in
     record {

@@ -4,13 +4,13 @@ use mathlib.Core.Path.{_≡_, refl, sym, subst}
 use mathlib.Core.List.{List}
 use native.Mathlib.Omega.{arith}
 use Rattle.sorts.specs.Numbers.{allMarks}
-use Rattle.reader.specs.Bytes.{Outcome, got, refused}
-use Rattle.reader.specs.Records.{Record, TG, ST, LI, WD, QU, readRecord}
+use Rattle.ranges.specs.Bytes.{Outcome, got, refused}
+use Rattle.reader.specs.Records.{Record, enter, remove, query, readRecord}
 use Rattle.rules.specs.Standing.{In, standing}
 use Rattle.book.specs.declared.Book.{Book}
 use Rattle.book.specs.declared.Answered.{Answered}
 use Rattle.book.specs.Machine.{State, start, step}
-use Rattle.book.specs.Counts.{ones}
+use Rattle.marks.specs.Counts.{ones}
 use Rattle.book.specs.Calls.{Called}
 use Rattle.book.specs.Chains.{freshBook, freshMarks, Call, Chain, none, then, records, runs}
 use Rattle.demands.specs.Worth.{allGains, allLosses}
@@ -37,11 +37,9 @@ module _ {b : Book} {m s : List ℕ} {r : Answered} {n : List ℕ} {M : State} (
   -- a call goes one way, by its record
   one-way : (o : Outcome Record) → readRecord s ≡ o → Moved M o → OneWay o this
   unfolding step
-  one-way (got (TG g) k) e u = no-loss R C (rw e u)
-  one-way (got (ST g) k) e u = no-gain R C (rw e u)
-  one-way (got (LI p g) k) e u = no-loss R C (rw e u)
-  one-way (got (WD p g) k) e u = no-gain R C (rw e u)
-  one-way (got (QU c) k) e u = both-still (rw e u)
+  one-way (got (enter by g) k) e u = no-loss R C (rw e u)
+  one-way (got (remove by g) k) e u = no-gain R C (rw e u)
+  one-way (got (query c) k) e u = both-still (rw e u)
   one-way (refused k) e u = both-still (rw e u)
 
 pub after : {b b′ : Book} {m m′ : List ℕ} {cs : List Call} {M : State} → Reached b m M → Chain b m cs b′ m′ → After M m cs b′ m′

@@ -7,7 +7,7 @@ use Rattle.reader.specs.inner.OneRecord.{numRecord}
 use Rattle.reader.proofs.Record.{reads-within}
 use Rattle.book.specs.declared.Book.{Book}
 use Rattle.book.specs.Machine.{State}
-use Rattle.book.specs.Books.{tableOf, BookForm}
+use Rattle.book.specs.Books.{BookForm}
 use Rattle.book.specs.Calls.{Called}
 use Rattle.book.specs.Chains.{freshBook, freshMarks, Call, Chain, none, then, records}
 use Rattle.book.specs.inner.Apply.{applied, marksApplied}
@@ -15,8 +15,8 @@ use Rattle.book.proofs.Keeping.{called-formed}
 use Rattle.demands.proofs.Reached.{Reached, fresh-reached, reached-after}
 
 -- a call on a book in form can be had
-pub call-some : (b : Book) (m s : List ℕ) → BookForm b m → Called b m s (applied b m (numRecord s (tableOf b))) (marksApplied b m (numRecord s (tableOf b)))
-call-some b m s f = called-formed b m s (numRecord s (tableOf b)) _ _ f (reads-within s (tableOf b) _ (f .table .count) refl) refl refl
+pub call-some : (b : Book) (m s : List ℕ) → BookForm b m → Called b m s (applied b m (numRecord s (b .table))) (marksApplied b m (numRecord s (b .table)))
+call-some b m s f = called-formed b m s (numRecord s (b .table)) _ _ f (reads-within s (b .table) _ (f .table .count) refl) refl refl
 
 pub record Some (b : Book) (m : List ℕ) (ss : List (List ℕ)) : Type 0 where
   pub calls : List Call

@@ -3,13 +3,14 @@
 use Prim.Native.Nat.{ℕ}
 use mathlib.Core.Path.{_≡_, refl, ap, subst, _∙_}
 use mathlib.Core.List.{List, [], _∷_}
+use Rattle.sorts.specs.declared.Status.the-variants.{Trusted}
 use Rattle.rows.specs.Written.{Grant, grant, none, property, perm, issue, written, sameBytes, same}
 use Rattle.rows.specs.Numbering.{place, has, add, number}
-use Rattle.reader.specs.Bytes.{byteAt, upto, principal, pack, form, head}
-use Rattle.reader.specs.Grants.{readProperty, readPacked, readIssue, readConcl, readConds, readWith, readGrant}
-use Rattle.reader.specs.Records.{readEntry, readLicence, readQuery, readContent, readRecord}
+use Rattle.ranges.specs.Bytes.{byteAt, upto, principal, pack, form, head}
+use Rattle.grants.specs.Grants.{readProperty, readPacked, readIssue, readConcl, readConds, readWith, readGrant}
+use Rattle.reader.specs.Records.{readEntry, readLicence, readQuery, readContent, kindWith, readMark, readRecord}
 use Rattle.book.specs.declared.Book.{Book}
-use Rattle.book.specs.Machine.{State, Verdict, changes, asks, refuses, start, without, hasLicence, addLicence, withoutLicence, act, step}
+use Rattle.book.specs.Machine.{State, Verdict, changes, asks, refuses, Entry, start, member, insert, delete, act, step}
 use Rattle.book.specs.Books.{Shows}
 use Rattle.book.specs.Chains.{freshBook, freshMarks, Call, Chain, records, runs}
 use Rattle.demands.proofs.Demand3.{demand-3}
@@ -31,7 +32,7 @@ verdicts M [] = []
 verdicts M (s ∷ ss) = step M s .says ∷ verdicts (step M s .next) ss
 
 opened : State → List (List ℕ) → List Verdict
-unfolding byteAt upto principal pack form head readProperty readPacked readIssue readConcl readConds readWith readGrant readEntry readLicence readQuery readContent readRecord written sameBytes same place has add number without hasLicence addLicence withoutLicence act step runs verdicts
+unfolding byteAt upto principal pack form head readProperty readPacked readIssue readConcl readConds readWith readGrant readEntry readLicence readQuery readContent kindWith readMark readRecord written sameBytes same place has add number member insert delete act step runs verdicts
 opened M ss = verdicts M ss
 
 pub journal-verdicts : verdicts start journal ≡ changes ∷ changes ∷ asks 290 ∷ changes ∷ asks 290 ∷ changes ∷ refuses 7 ∷ []
@@ -48,8 +49,11 @@ good = grant 0 0 none (property 2 2)
 abbrev pub may : Grant
 may = grant 0 0 none (perm 0 (issue good))
 
+abbrev pub trusted : Grant → Entry
+trusted g = record { by = Trusted; what = g }
+
 abbrev pub journal-end : State
-journal-end = record { T = smart ∷ may ∷ []; L = []; N = smart ∷ good ∷ may ∷ [] }
+journal-end = record { entries = trusted smart ∷ trusted may ∷ []; N = smart ∷ good ∷ may ∷ [] }
 
 pub journal-runs : runs start journal ≡ journal-end
 unfolding opened

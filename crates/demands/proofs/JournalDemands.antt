@@ -4,48 +4,52 @@ use Prim.Native.Nat.{ℕ, zero, suc, _+_, _≤_, _<_}
 use mathlib.Core.Path.{_≡_, refl, sym, ap, subst, _∙_}
 use mathlib.Core.Bool.{Bool, true, false, cond, _&&_}
 use mathlib.Core.List.{List, [], _∷_}
-use mathlib.Core.Logic.{_⊎_, inl, inr}
+use mathlib.Core.Logic.{_⊎_, inl, inr, ⊎-elim}
 use native.Mathlib.Omega.{arith}
 use native.Mathlib.Decide.{ℕ-discrete}
 use borrow.Author.Tests.{eqb-true}
 use lib.ListN.{length, getD, set, take, length-set}
 use lib.Seq.{getD-set-same, getD-set-other}
 use lib.Dec.{eqb}
+use Rattle.sorts.specs.declared.Status.{Status}
+use Rattle.sorts.specs.declared.Status.the-variants.{Trusted, Issued}
 use Rattle.sorts.specs.Numbers.{saidMark, allMarks}
+use Rattle.sorts.specs.Flags.{flagOf}
 use Rattle.rows.specs.Written.{Grant, written, sameBytes, same}
 use Rattle.rows.specs.Numbering.{place, has, add, number}
 use Rattle.rows.specs.Form.{condsOf, rowOf}
 use Rattle.rows.proofs.Bytes.{no-true}
-use Rattle.reader.specs.Bytes.{Outcome, got, byteAt, upto, principal, pack, form, head}
-use Rattle.reader.specs.Grants.{readProperty, readPacked, readIssue, readConcl, readConds, readWith, readGrant}
-use Rattle.reader.specs.Records.{Record, LI, WD, readEntry, readLicence, readQuery, readContent, readRecord}
+use Rattle.ranges.specs.Bytes.{Outcome, got, byteAt, upto, principal, pack, form, head}
+use Rattle.grants.specs.Grants.{readProperty, readPacked, readIssue, readConcl, readConds, readWith, readGrant}
+use Rattle.reader.specs.Records.{Record, enter, remove, readEntry, readLicence, readQuery, readContent, kindWith, readMark, readRecord}
 use Rattle.rules.specs.Rules.{resUnder, conclUnder, granted, issueMark, Values}
 use Rattle.rules.specs.Standing.{In, Bits}
 use Rattle.rules.proofs.Saturation.{same-marks, zeroes-none}
 use Rattle.book.specs.declared.Book.{Book}
 use Rattle.book.specs.declared.Answer.the-variants.{Permitted, NotPermitted}
-use Rattle.book.specs.Machine.{State, Step, asks, start, without, hasLicence, addLicence, withoutLicence, act, step}
-use Rattle.book.specs.Closed.{rowAt, Licensed, IsTrusted, ClosedSet}
-use Rattle.book.specs.Counts.{ones}
+use Rattle.book.specs.Machine.{State, Entry, Step, asks, start, member, insert, delete, act, step}
+use Rattle.book.specs.Closed.{grantAt, rowAt, StandsAs, ClosedSet, Stands, Lacking}
+use Rattle.marks.specs.Counts.{ones}
+use Rattle.book.proofs.Sets.{member-cases, member-none}
 use Rattle.book.specs.Chains.{freshBook, freshMarks, Call, Chain, none, then, records, runs}
 use Rattle.demands.specs.Worth.{allGains, allLosses}
-use Rattle.demands.specs.Demands.{Stands, Lacking, NoLoss, NoGain, OneWay, AllOneWay}
+use Rattle.demands.specs.Demands.{NoLoss, NoGain, OneWay, AllOneWay}
 use Rattle.demands.proofs.Balance.{ones-none}
 use Rattle.demands.proofs.Existence.{chain-some}
 use Rattle.demands.proofs.Reached.{fresh-form}
 use Rattle.demands.proofs.Demand2.{demand-2}
 use Rattle.demands.proofs.Demand3.{demand-3}
-use Rattle.demands.proofs.Journal.{journal, smart, good, may, journal-end, journal-runs}
+use Rattle.demands.proofs.Journal.{journal, smart, good, may, trusted, journal-end, journal-runs}
 
 -- The machine when the queries are answered: 0 has issued Good(2), and may at the second.
-abbrev asked : List Grant → List Grant → State
-asked T N = record { T = T; L = record { issuer = 0; what = good } ∷ []; N = N }
+abbrev issued : Entry
+issued = record { by = Issued (record { 0 = 0 }); what = good }
 
 abbrev first : State
-first = asked (smart ∷ []) (smart ∷ good ∷ [])
+first = record { entries = trusted smart ∷ issued ∷ []; N = smart ∷ good ∷ [] }
 
 abbrev second : State
-second = asked (smart ∷ may ∷ []) (smart ∷ good ∷ may ∷ [])
+second = record { entries = trusted smart ∷ issued ∷ trusted may ∷ []; N = smart ∷ good ∷ may ∷ [] }
 
 -- What each grant gives, which has no variable.
 
@@ -68,15 +72,27 @@ both-true true true e = (refl, refl)
 both-true true false e = absurd (no-true e)
 both-true false b e = absurd (no-true e)
 
--- the one licence is 0's, with Good(2)
-one-licence : (p g : ℕ) → Licensed first p g → (p ≡ 0) × (g ≡ 1)
-unfolding hasLicence same sameBytes written
-one-licence p zero s = absurd (no-true (both-true (eqb p 0) false (s .1) .1))
-one-licence p (suc zero) s = (eqb-true p 0 (both-true (eqb p 0) true (s .1) .0), refl)
-one-licence p (suc (suc g)) s = absurd (omega (arith, s .0))
+-- an entry that is issued is not one that is trusted
+not-trusted : {A : Type 0} (p : ℕ) (g h : Grant) → _≡_ {A = Entry} (record { by = Issued (record { 0 = p }); what = g }) (trusted h) → A
+not-trusted p g h e = let q : _≡_ {A = Status} (Issued (record { 0 = p })) Trusted = ap (λ (x : Entry). x .by) e in let z : _≡_ {A = ℕ} 0 1 = cc in absurd (omega arith)
 
-one-trusted : (g : ℕ) → IsTrusted first g → g ≡ 0
-unfolding has place same sameBytes written
+-- the one licence is 0's, with Good(2)
+one-licence : (p g : ℕ) → StandsAs first (Issued (record { 0 = p })) g → (p ≡ 0) × (g ≡ 1)
+one-licence p g s =
+    ⊎-elim (λ e. not-trusted p (grantAt first g) smart e)
+    (λ h. ⊎-elim (λ e. (issuer e, number g (s .0) (ap (λ (x : Entry). x .what) e))) (λ k. absurd (member-none _ k)) (member-cases _ issued [] h))
+    (member-cases _ (trusted smart) (issued ∷ []) (s .1))
+  where
+    issuer : _≡_ {A = Entry} (record { by = Issued (record { 0 = p }); what = grantAt first g }) issued → p ≡ 0
+    issuer e = omega (arith, ap (λ (x : Entry). flagOf (x .by)) e)
+
+    number : (g : ℕ) → g < 2 → grantAt first g ≡ good → g ≡ 1
+    number zero l e = let z : _≡_ {A = ℕ} 0 2 = cc in absurd (omega arith)
+    number (suc zero) l e = refl
+    number (suc (suc g)) l e = absurd (omega arith)
+
+one-trusted : (g : ℕ) → StandsAs first Trusted g → g ≡ 0
+unfolding member same sameBytes written
 one-trusted zero s = refl
 one-trusted (suc zero) s = absurd (no-true (s .1))
 one-trusted (suc (suc g)) s = absurd (omega (arith, s .0))
@@ -116,7 +132,7 @@ no-values : (M : State) (g : ℕ) → g < 64 → rowAt M g .prins ≡ 0 → rowA
 no-values M g l e f = record { grant = l; first = rw e (omega arith); second = rw e (omega arith); resource = rw f (omega arith) }
 
 second-stands : Stands second 290
-unfolding rowOf condsOf has place hasLicence same sameBytes written
+unfolding rowOf condsOf place member same sameBytes written
 second-stands S c =
     let right : S 17 = subst S (gives-may 0 0 0 .0) (c .trust 2 0 0 0 (no-values second 2 (omega arith) refl refl) (omega arith, refl) (λ i l. absurd (omega arith))) in
     subst S (gives-good 0 0 0 .1) (c .authority 1 0 0 0 0 (no-values second 1 (omega arith) refl refl) (omega arith) (omega arith, refl) right (λ i l. absurd (omega arith)))
@@ -125,12 +141,14 @@ second-stands S c =
 abbrev EndMarks : ℕ → Type 0
 EndMarks n = (n ≡ 17) ⊎ (n ≡ 288)
 
-no-licence : (p g : ℕ) → Licensed journal-end p g → ⊥
-unfolding hasLicence
-no-licence p g s = no-true (s .1)
+no-licence : (p g : ℕ) → StandsAs journal-end (Issued (record { 0 = p })) g → ⊥
+no-licence p g s =
+    ⊎-elim (λ e. not-trusted p (grantAt journal-end g) smart e)
+    (λ h. ⊎-elim (λ e. not-trusted p (grantAt journal-end g) may e) (λ k. member-none _ k) (member-cases _ (trusted may) [] h))
+    (member-cases _ (trusted smart) (trusted may ∷ []) (s .1))
 
-end-trusted : (g x y z : ℕ) → IsTrusted journal-end g → EndMarks (granted (rowAt journal-end g) x y z)
-unfolding has place same sameBytes written
+end-trusted : (g x y z : ℕ) → StandsAs journal-end Trusted g → EndMarks (granted (rowAt journal-end g) x y z)
+unfolding member same sameBytes written
 end-trusted zero x y z s = inr (gives-smart x y z .1)
 end-trusted (suc zero) x y z s = absurd (no-true (s .1))
 end-trusted (suc (suc zero)) x y z s = inl (gives-may x y z .1)
@@ -144,7 +162,7 @@ end-closed = record {
 }
 
 end-stands : (n : ℕ) → EndMarks n → Stands journal-end n
-unfolding rowOf condsOf has place hasLicence same sameBytes written
+unfolding rowOf condsOf place member same sameBytes written
 end-stands n (inl e) S c =
     subst S (gives-may 0 0 0 .1 ∙ sym e) (c .trust 2 0 0 0 (no-values journal-end 2 (omega arith) refl refl) (omega arith, refl) (λ i l. absurd (omega arith)))
 end-stands n (inr e) S c =
@@ -218,12 +236,12 @@ journal-sums cs b m K e =
 
 -- THE ONE WAY: the second record, LI, loses nothing, and the sixth, WD, gains nothing.
 
-second-is : readRecord (76 ∷ 73 ∷ 0 ∷ 0 ∷ 0 ∷ 0 ∷ 0 ∷ 2 ∷ 2 ∷ []) ≡ got (LI 0 good) 9
-unfolding byteAt upto principal head readProperty readConcl readConds readWith readGrant readEntry readLicence readContent readRecord
+second-is : readRecord (76 ∷ 73 ∷ 0 ∷ 0 ∷ 0 ∷ 0 ∷ 0 ∷ 2 ∷ 2 ∷ []) ≡ got (enter (Issued (record { 0 = 0 })) good) 9
+unfolding byteAt upto principal head readProperty readConcl readConds readWith readGrant readEntry readLicence readContent kindWith readMark readRecord
 second-is = refl
 
-sixth-is : readRecord (87 ∷ 68 ∷ 0 ∷ 0 ∷ 0 ∷ 0 ∷ 0 ∷ 2 ∷ 2 ∷ []) ≡ got (WD 0 good) 9
-unfolding byteAt upto principal head readProperty readConcl readConds readWith readGrant readEntry readLicence readContent readRecord
+sixth-is : readRecord (87 ∷ 68 ∷ 0 ∷ 0 ∷ 0 ∷ 0 ∷ 0 ∷ 2 ∷ 2 ∷ []) ≡ got (remove (Issued (record { 0 = 0 })) good) 9
+unfolding byteAt upto principal head readProperty readConcl readConds readWith readGrant readEntry readLicence readContent kindWith readMark readRecord
 sixth-is = refl
 
 pub journal-one-way : (a b c d e f g : Call) (t : Book) (m : List ℕ) → Chain freshBook freshMarks (a ∷ b ∷ c ∷ d ∷ e ∷ f ∷ g ∷ []) t m →
@@ -231,18 +249,18 @@ pub journal-one-way : (a b c d e f g : Call) (t : Book) (m : List ℕ) → Chain
 unfolding records AllOneWay
 journal-one-way a b c d e f g t m K h =
     let W = demand-3 (a ∷ b ∷ c ∷ d ∷ e ∷ f ∷ g ∷ []) t m K .oneWay in
-    let li : readRecord (b .record′) ≡ got (LI 0 good) 9 = ap (λ (l : List (List ℕ)). readRecord (getD l 1 [])) h ∙ second-is in
-    let wd : readRecord (f .record′) ≡ got (WD 0 good) 9 = ap (λ (l : List (List ℕ)). readRecord (getD l 5 [])) h ∙ sixth-is in
+    let li : readRecord (b .record′) ≡ got (enter (Issued (record { 0 = 0 })) good) 9 = ap (λ (l : List (List ℕ)). readRecord (getD l 1 [])) h ∙ second-is in
+    let wd : readRecord (f .record′) ≡ got (remove (Issued (record { 0 = 0 })) good) 9 = ap (λ (l : List (List ℕ)). readRecord (getD l 5 [])) h ∙ sixth-is in
     (subst (λ (o : Outcome Record). OneWay o b) li (W .1 .0), subst (λ (o : Outcome Record). OneWay o f) wd (W .1 .1 .1 .1 .1 .0))
 
 -- THE ANSWERS: Good(2) is not permitted at the third record, and permitted at the fifth.
 
 third-asks : step (runs start (take 2 journal)) (getD journal 2 []) ≡ record { next = first; says = asks 290; used = 5 }
-unfolding byteAt upto principal pack form head readProperty readPacked readIssue readConcl readConds readWith readGrant readEntry readLicence readQuery readContent readRecord written sameBytes same place has add number without hasLicence addLicence withoutLicence act step runs
+unfolding byteAt upto principal pack form head readProperty readPacked readIssue readConcl readConds readWith readGrant readEntry readLicence readQuery readContent kindWith readMark readRecord written sameBytes same place has add number member insert delete act step runs
 third-asks = refl
 
 fifth-asks : step (runs start (take 4 journal)) (getD journal 4 []) ≡ record { next = second; says = asks 290; used = 5 }
-unfolding byteAt upto principal pack form head readProperty readPacked readIssue readConcl readConds readWith readGrant readEntry readLicence readQuery readContent readRecord written sameBytes same place has add number without hasLicence addLicence withoutLicence act step runs
+unfolding byteAt upto principal pack form head readProperty readPacked readIssue readConcl readConds readWith readGrant readEntry readLicence readQuery readContent kindWith readMark readRecord written sameBytes same place has add number member insert delete act step runs
 fifth-asks = refl
 
 pub journal-answers : {a b c d e f g : Call} {t : Book} {m : List ℕ} → Chain freshBook freshMarks (a ∷ b ∷ c ∷ d ∷ e ∷ f ∷ g ∷ []) t m →

@@ -9,9 +9,9 @@ use Rattle.rows.specs.Written.{Grant, same}
 use Rattle.rows.specs.Numbering.{place, has}
 use Rattle.rows.specs.Form.{rowsOut}
 use Rattle.rows.proofs.Place.{has-lt}
-use Rattle.reader.specs.Bytes.{Outcome, got, refused}
-use Rattle.reader.specs.Records.{Record, TG, ST, LI, WD, QU, readRecord}
-use Rattle.reader.proofs.Fuse.{Ext, ext-refl, ext-trans}
+use Rattle.ranges.specs.Bytes.{Outcome, got, refused}
+use Rattle.reader.specs.Records.{Record, enter, remove, query, readRecord}
+use Rattle.rows.proofs.Appended.{Ext, ext-refl, ext-trans}
 use Rattle.book.specs.declared.Book.{Book}
 use Rattle.book.specs.Machine.{State, start, acted, step}
 use Rattle.book.specs.Chains.{Call, Chain, freshBook, freshMarks, records, runs}
@@ -24,11 +24,9 @@ unfolding step
 step-grows M s = go (readRecord s) (moved M (readRecord s))
   where
     go : (o : Outcome Record) → Moved M o → Ext (M .N) (acted M o .next .N)
-    go (got (TG g) n) u = u .ext
-    go (got (ST g) n) u = u .ext
-    go (got (LI p g) n) u = u .ext
-    go (got (WD p g) n) u = u .ext
-    go (got (QU c) n) u = u .ext
+    go (got (enter by g) n) u = u .ext
+    go (got (remove by g) n) u = u .ext
+    go (got (query c) n) u = u .ext
     go (refused k) u = u .ext
 
 -- Over every list of records N only grows at its end,
@@ -55,10 +53,10 @@ number-kept ss M g e =
 
 -- and the rows of a book that calls reached stay the first of those that more calls leave.
 pub rows-kept : {b b′ : Book} {m m′ : List ℕ} {cs ds : List Call} → Chain freshBook freshMarks cs b m → Chain b m ds b′ m′ →
-    Ext (rowsOut (b .rows) (b .count)) (rowsOut (b′ .rows) (b′ .count))
+    Ext (rowsOut (b .table .rows) (b .table .count)) (rowsOut (b′ .table .rows) (b′ .table .count))
 rows-kept {b} {b′} {cs = cs} {ds = ds} K L =
     let A = after fresh-reached K .reached in
     let B = after A L .reached in
     let M = runs start (records cs) in
-    subst (λ (N : List Grant). Ext N (rowsOut (b′ .rows) (b′ .count))) (sym (A .shows .rows))
+    subst (λ (N : List Grant). Ext N (rowsOut (b′ .table .rows) (b′ .table .count))) (sym (A .shows .rows))
     (subst (Ext (M .N)) (sym (B .shows .rows)) (grows (records ds) M))

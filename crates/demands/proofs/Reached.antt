@@ -1,5 +1,5 @@
 -- A book that calls reached, and one more call on it.
-use Prim.Native.Nat.{ℕ, _+_, _*_}
+use Prim.Native.Nat.{ℕ, _+_}
 use mathlib.Core.Path.{_≡_, refl, sym, ap, subst, _∙_}
 use mathlib.Core.Bool.{Bool, true, false, cond}
 use mathlib.Core.List.{List}
@@ -7,6 +7,9 @@ use native.Mathlib.Omega.{arith}
 use native.Mathlib.Nat.{not-suc-le-zero}
 use lib.ListN.{length, getD, replicate, length-replicate}
 use lib.Dec.{eqb}
+use Rattle.sorts.specs.declared.Status.the-variants.{Trusted, Issued}
+use Rattle.sorts.specs.Numbers.{allMarks}
+use Rattle.sorts.specs.Flags.{allFlags, flagPlace}
 use Rattle.rows.specs.Form.{rowsOut}
 use Rattle.rows.proofs.Shown.{blank-shown, shown-form}
 use Rattle.rows.proofs.Bytes.{no-true}
@@ -19,10 +22,10 @@ use Rattle.book.specs.declared.Book.{Book}
 use Rattle.book.specs.declared.Answer.{Answer}
 use Rattle.book.specs.declared.Answer.the-variants.{Permitted, NotPermitted}
 use Rattle.book.specs.declared.Answered.{Answered}
-use Rattle.book.specs.Machine.{State, Verdict, changes, asks, refuses, start, step, hasLicence}
-use Rattle.book.specs.Counts.{gains, ones, countsOf}
+use Rattle.book.specs.Machine.{State, Verdict, changes, asks, refuses, start, step, member}
+use Rattle.marks.specs.Counts.{gains, ones, countsOf}
 use Rattle.demands.specs.Worth.{worth}
-use Rattle.book.specs.Books.{tableOf, BookForm, Shows}
+use Rattle.book.specs.Books.{BookForm, Shows}
 use Rattle.book.specs.Calls.{answerOf, marksAfter, Follows, Called}
 use Rattle.book.specs.Chains.{freshBook, freshMarks}
 use Rattle.demands.proofs.Balance.{balance, none-gained}
@@ -34,48 +37,46 @@ use Rattle.demands.proofs.Standings.{up-stands, down-stands, still-stan
 pub record Reached (b : Book) (m : List ℕ) (M : State) : Type 0 where
   pub form : BookForm b m
   pub shows : Shows b M
-  pub stands : m ≡ standing (b .rows) (b .flags)
+  pub stands : m ≡ standing (b .table .rows) (b .flags)
 
 -- a fresh book is reached
 
 fresh-flag : (i : ℕ) → getD (freshBook .flags) i 0 ≡ 0
-fresh-flag i = let b = zeroes-bits 1088 i in let n = zeroes-none 1088 i in omega (arith, b, n)
+fresh-flag i = let b = zeroes-bits allFlags i in let n = zeroes-none allFlags i in omega (arith, b, n)
 
 pub fresh-form : BookForm freshBook freshMarks
 unfolding freshMarks
 fresh-form = record {
-  marks = length-replicate {A = ℕ} 39168 0;
-  markBits = zeroes-bits 39168;
-  flags = length-replicate {A = ℕ} 1088 0;
-  flagBits = zeroes-bits 1088;
+  marks = length-replicate {A = ℕ} allMarks 0;
+  markBits = zeroes-bits allMarks;
+  flags = length-replicate {A = ℕ} allFlags 0;
+  flagBits = zeroes-bits allFlags;
   table = shown-form blank-shown;
   unflagged = λ i l. fresh-flag i;
 }
 
 pub fresh-shows : Shows freshBook start
-unfolding rowsOut hasLicence
+unfolding rowsOut member
 fresh-shows = record {
   rows = refl;
-  trusted = λ g l. absurd (not-suc-le-zero l);
-  issued = λ g p l. absurd (not-suc-le-zero l);
-  trustedIn = λ g e. e;
-  issuedIn = λ x e. absurd (no-true e);
+  flags = λ by g k l. absurd (not-suc-le-zero l);
+  within = λ by g e. absurd (no-true e);
 }
 
 -- nothing stands where no flag is set
-fresh-closed : Closed (freshBook .rows) (freshBook .flags) (λ n. ⊥)
+fresh-closed : Closed (freshBook .table .rows) (freshBook .flags) (λ n. ⊥)
 fresh-closed = record {
-  saying = λ g x y z p v l s h. s (fresh-flag (17 * g + (1 + p)));
-  trust = λ g x y z v s h. s (fresh-flag (17 * g + 0));
-  authority = λ g x y z p v l s i h. s (fresh-flag (17 * g + (1 + p)));
+  saying = λ g x y z p v l s h. s (fresh-flag (flagPlace (Issued (record { 0 = p })) g));
+  trust = λ g x y z v s h. s (fresh-flag (flagPlace Trusted g));
+  authority = λ g x y z p v l s i h. s (fresh-flag (flagPlace (Issued (record { 0 = p })) g));
 }
 
-fresh-stands : freshMarks ≡ standing (freshBook .rows) (freshBook .flags)
+fresh-stands : freshMarks ≡ standing (freshBook .table .rows) (freshBook .flags)
 unfolding freshMarks
 fresh-stands =
-    same-marks (replicate 39168 0) (standing (freshBook .rows) (freshBook .flags)) (length-replicate {A = ℕ} 39168 0 ∙ sym (standing-length (freshBook .rows) (freshBook .flags)))
-    (zeroes-bits 39168) (standing-bits (freshBook .rows) (freshBook .flags)) (λ n h. absurd (zeroes-none 39168 n h))
-    (λ n h. absurd (standing-in (freshBook .rows) (freshBook .flags) (table-rows (tableOf freshBook) (fresh-form .table)) n .0 h (λ k. ⊥) fresh-closed))
+    same-marks (replicate allMarks 0) (standing (freshBook .table .rows) (freshBook .flags)) (length-replicate {A = ℕ} allMarks 0 ∙ sym (standing-length (freshBook .table .rows) (freshBook .flags)))
+    (zeroes-bits allMarks) (standing-bits (freshBook .table .rows) (freshBook .flags)) (λ n h. absurd (zeroes-none allMarks n h))
+    (λ n h. absurd (standing-in (freshBook .table .rows) (freshBook .flags) (table-rows (freshBook .table) (fresh-form .table)) n .0 h (λ k. ⊥) fresh-closed))
 
 pub fresh-reached : Reached freshBook freshMarks start
 fresh-reached = record { form = fresh-form; shows = fresh-shows; stands = fresh-stands }
@@ -87,13 +88,13 @@ module _ {b : Book} {m s : List ℕ} {r : Answered} {n : List ℕ} {M : State} (
   fol = C .formed (R .form) M (R .shows)
 
   -- a query leaves the standing statements as they are; so does a refusal
-  stands-after : (v : Verdict) → step M s .says ≡ v → n ≡ marksAfter v (r .book) m → n ≡ standing (r .book .rows) (r .book .flags)
+  stands-after : (v : Verdict) → step M s .says ≡ v → n ≡ marksAfter v (r .book) m → n ≡ standing (r .book .table .rows) (r .book .flags)
   unfolding marksAfter step
   stands-after changes e h = h
   stands-after (asks c) e h =
       let q = asks-still M (readRecord s) c e in
       h ∙ R .stands ∙ still-stands (R .form) (R .shows) (fol .form) (fol .shows) (q .ext) (q .grows) (q .shrinks)
-  stands-after (refuses k) e h = h ∙ R .stands ∙ ap (λ (x : Book). standing (x .rows) (x .flags)) (sym (fol .kept k e))
+  stands-after (refuses k) e h = h ∙ R .stands ∙ ap (λ (x : Book). standing (x .table .rows) (x .flags)) (sym (fol .kept k e))
 
   pub reached-after : Reached (r .book) n (step M s .next)
   reached-after = record { form = fol .form; shows = fol .shows; stands = stands-after (step M s .says) refl (fol .marks) }
@@ -137,7 +138,7 @@ module _ {b : Book} {m s : List ℕ} {r : Answered} {n : List ℕ} {M : State} (
       go false = refl
   answer-gained (refuses k) h = refl
 
-  stands′ : n ≡ standing (r .book .rows) (r .book .flags)
+  stands′ : n ≡ standing (r .book .table .rows) (r .book .flags)
   stands′ = reached-after .stands
 
   pub no-loss : Up M (step M s .next) → (worth (r .answer) .lost ≡ 0) × (gains n m ≡ 0)

@@ -16,7 +16,7 @@ use Rattle.rows.proofs.RowSame.{row-path}
 use Rattle.rows.proofs.Rows.{ConclBelow, RowBelow, row-ext}
 use Rattle.rows.proofs.Shown.{Shown, shown-below}
 use Rattle.rows.proofs.Known.{concl-back}
-use Rattle.reader.proofs.Fuse.{Ext, ext-length}
+use Rattle.rows.proofs.Appended.{Ext, ext-length}
 
 module _ (N : List Grant) (small : length N ≤ 64) (dis : Distinct N) where
   many-back : (cs : List Cond) (i k : ℕ) → howMany (writeConds N cs i k) ≡ k

@@ -1,5 +1,5 @@
--- Every book in form shows a state of the plain machine: N the rows written out, T and L from the flags.
-use Prim.Native.Nat.{ℕ, _+_, _*_, _/_, _%_, _≤_, _<_}
+-- Every book in form shows a state of the plain machine: N the rows written out, and the entries whose flags are set.
+use Prim.Native.Nat.{ℕ, _*_, _/_, _%_, _≤_, _<_}
 use mathlib.Core.Path.{_≡_, refl, sym, ap, subst, _∙_}
 use mathlib.Core.Bool.{Bool, true, false}
 use mathlib.Core.List.{List}
@@ -8,17 +8,18 @@ use lib.ListN.{length, getD}
 use native.Mathlib.Decide.{ℕ-discrete}
 use lib.Dec.{eqb}
 use borrow.Author.Tests.{eq-eqb, eqb-true}
-use Rattle.rows.specs.Written.{Grant, same}
-use Rattle.rows.specs.Numbering.{has}
+use Rattle.sorts.specs.declared.Status.{Status}
+use Rattle.sorts.specs.Flags.{StatusForm, rowFlags, flagOf, flagPlace, flag}
+use Rattle.sorts.proofs.Flags.{statusOf, status-flag, status-form, flag-by, flag-high, place-in}
+use Rattle.rows.specs.Written.{Grant}
 use Rattle.rows.specs.Form.{noGrant, rowsOut}
-use Rattle.rows.proofs.Bytes.{same-eq, same-refl, no-true}
+use Rattle.rows.proofs.Bytes.{no-true}
 use Rattle.rows.proofs.Place.{has-in}
 use Rattle.rows.proofs.Shown as table
-use Rattle.rules.specs.Rules.{flag}
 use Rattle.book.specs.declared.Book.{Book}
-use Rattle.book.specs.Machine.{State, Licence, sameLicence, hasLicence}
-use Rattle.book.specs.Books.{tableOf, BookForm, Shows, bit}
-use Rattle.book.proofs.Sets.{member, collect, collect-member, member-collect, has-member, licence-eq, licence-refl, licence-member}
+use Rattle.book.specs.Machine.{State, Entry, member}
+use Rattle.book.specs.Books.{BookForm, Shows, bit}
+use Rattle.book.proofs.Sets.{collect, collect-member, member-collect}
 
 -- a flag that is 0 or 1 is a test's bit
 flag-bit : (v : ℕ) (c : Bool) → v ≤ 1 → (v ≡ 1 → c ≡ true) → (c ≡ true → v ≡ 1) → v ≡ bit c
@@ -31,91 +32,65 @@ flag-bit v false l f g = go (ℕ-discrete v 1)
 
 module _ (b : Book) (m : List ℕ) (f : BookForm b m) where
   abbrev N : List Grant
-  N = rowsOut (b .rows) (b .count)
+  N = rowsOut (b .table .rows) (b .table .count)
 
-  S : table.Shown (b .rows) (b .count) N
-  S = table.form-shown (tableOf b) (f .table)
+  S : table.Shown (b .table .rows) (b .table .count) N
+  S = table.form-shown (b .table) (f .table)
 
   abbrev grantOf : ℕ → Grant
   grantOf i = getD N i noGrant
 
-  abbrev licenceOf : ℕ → Licence
-  licenceOf i = record { issuer = i % 16; what = grantOf (i / 16) }
+  -- the entry that flag i speaks of
+  abbrev entryOf : ℕ → Entry
+  entryOf i = record { by = statusOf (i % rowFlags); what = grantOf (i / rowFlags) }
 
-  abbrev isTrusted : ℕ → Bool
-  isTrusted i = eqb (flag (b .flags) i 0) 1
+  abbrev isSet : ℕ → Bool
+  isSet i = eqb (getD (b .flags) i 0) 1
 
-  abbrev isIssued : ℕ → Bool
-  isIssued i = eqb (flag (b .flags) (i / 16) (1 + i % 16)) 1
+  entries : List Entry
+  entries = collect (rowFlags * b .table .count) isSet entryOf
 
-  T : List Grant
-  T = collect same same-eq same-refl (b .count) isTrusted grantOf
+  entry-from : (x : Entry) → member x entries ≡ true → (i : ℕ) × (i < rowFlags * b .table .count) × (isSet i ≡ true) × (entryOf i ≡ x)
+  unfolding entries
+  entry-from x e = member-collect (rowFlags * b .table .count) isSet entryOf x e
 
-  L : List Licence
-  L = collect sameLicence licence-eq licence-refl (16 * b .count) isIssued licenceOf
-
-  trusted-from : (g : Grant) → has g T ≡ true → (i : ℕ) × (i < b .count) × (isTrusted i ≡ true) × (grantOf i ≡ g)
-  unfolding T
-  trusted-from g e = member-collect same same-eq same-refl (b .count) isTrusted grantOf g (sym (has-member g (collect same same-eq same-refl (b .count) isTrusted grantOf)) ∙ e)
-
-  issued-from : (x : Licence) → hasLicence x L ≡ true → (i : ℕ) × (i < 16 * b .count) × (isIssued i ≡ true) × (licenceOf i ≡ x)
-  unfolding L
-  issued-from x e =
-      member-collect sameLicence licence-eq licence-refl (16 * b .count) isIssued licenceOf x (sym (licence-member x (collect sameLicence licence-eq licence-refl (16 * b .count) isIssued licenceOf)) ∙ e)
-
-  len : b .count ≡ length N
+  len : b .table .count ≡ length N
   len = S .counted
 
-  trusted-is : (g : ℕ) → g < length N → flag (b .flags) g 0 ≡ bit (has (grantOf g) T)
-  unfolding T
-  trusted-is g l =
-      flag-bit (flag (b .flags) g 0) (has (grantOf g) T) (f .flagBits (17 * g + 0))
-      (λ e. has-member (grantOf g) T ∙ collect-member same same-eq same-refl (b .count) isTrusted grantOf g (omega (arith, len)) (eq-eqb (flag (b .flags) g 0) 1 e))
+  -- the flag of grant g and a status speaks of that entry
+  entry-at : (by : Status) (g : ℕ) → StatusForm by → entryOf (flagPlace by g) ≡ record { by = by; what = grantOf g }
+  entry-at by g k =
+      let h = flag-high by k in
+      let r : flagPlace by g % rowFlags ≡ flagOf by = omega arith in
+      let q : flagPlace by g / rowFlags ≡ g = omega arith in
+      λ i. record { by = (ap statusOf r ∙ flag-by (statusOf (flagOf by)) by (status-flag (flagOf by))) i; what = grantOf (q i) }
+
+  flag-is : (by : Status) (g : ℕ) → StatusForm by → g < length N → flag (b .flags) by g ≡ bit (member (record { by = by; what = grantOf g }) entries)
+  unfolding entries
+  flag-is by g k l =
+      flag-bit (flag (b .flags) by g) (member (record { by = by; what = grantOf g }) entries) (f .flagBits (flagPlace by g))
+      (λ e. subst (λ (x : Entry). member x entries ≡ true) (entry-at by g k)
+      (collect-member (rowFlags * b .table .count) isSet entryOf (flagPlace by g) (place-in by g (b .table .count) k (omega (arith, len))) (eq-eqb (flag (b .flags) by g) 1 e)))
       (λ e.
-      let w = trusted-from (grantOf g) e in
+      let w = entry-from (record { by = by; what = grantOf g }) e in
       let wl = w .1 in
-      let d : w .0 ≡ g = S .distinct (w .0) g (omega (arith, len)) l (w .3) in
-      ap (λ (i : ℕ). flag (b .flags) i 0) (sym d) ∙ eqb-true (flag (b .flags) (w .0) 0) 1 (w .2))
-
-  issued-is : (g p : ℕ) → g < length N → p < 16 → flag (b .flags) g (1 + p) ≡ bit (hasLicence (record { issuer = p; what = grantOf g }) L)
-  unfolding L
-  issued-is g p l k =
-      flag-bit (flag (b .flags) g (1 + p)) (hasLicence (record { issuer = p; what = grantOf g }) L) (f .flagBits (17 * g + (1 + p)))
-      (λ e. licence-member (record { issuer = p; what = grantOf g }) L ∙ subst (λ (x : Licence). member sameLicence licence-eq licence-refl x L ≡ true) here
-      (collect-member sameLicence licence-eq licence-refl (16 * b .count) isIssued licenceOf (16 * g + p) (omega (arith, len)) (eq-eqb _ 1 (flag-at ∙ e))))
-      (λ e.
-      let w = issued-from (record { issuer = p; what = grantOf g }) e in
-      let wl = w .1 in
-      let c : grantOf (w .0 / 16) ≡ grantOf g = ap (λ (x : Licence). x .what) (w .3) in
-      let d : w .0 / 16 ≡ g = S .distinct (w .0 / 16) g (omega (arith, len)) l c in
-      let q : w .0 % 16 ≡ p = ap (λ (x : Licence). x .issuer) (w .3) in
-      (λ i. flag (b .flags) (sym d i) (1 + sym q i)) ∙ eqb-true (flag (b .flags) (w .0 / 16) (1 + w .0 % 16)) 1 (w .2))
-    where
-      quot : (16 * g + p) / 16 ≡ g
-      quot = omega arith
-
-      rest : (16 * g + p) % 16 ≡ p
-      rest = omega arith
-
-      here : licenceOf (16 * g + p) ≡ record { issuer = p; what = grantOf g }
-      here = λ i. record { issuer = rest i; what = grantOf (quot i) }
-
-      flag-at : flag (b .flags) ((16 * g + p) / 16) (1 + (16 * g + p) % 16) ≡ flag (b .flags) g (1 + p)
-      flag-at = λ i. flag (b .flags) (quot i) (1 + rest i)
+      let d : w .0 / rowFlags ≡ g = S .distinct (w .0 / rowFlags) g (omega (arith, len)) l (ap (λ (x : Entry). x .what) (w .3)) in
+      let q : w .0 % rowFlags ≡ flagOf by = sym (status-flag (w .0 % rowFlags)) ∙ ap (λ (x : Entry). flagOf (x .by)) (w .3) in
+      let i : flagPlace by g ≡ w .0 = omega arith in
+      ap (λ (n : ℕ). getD (b .flags) n 0) i ∙ eqb-true (getD (b .flags) (w .0) 0) 1 (w .2))
 
   -- the state that the book shows
   pub shows-some : (M : State) × Shows b M
   shows-some = (
-    record { T = T; L = L; N = N },
+    record { entries = entries; N = N },
     record {
       rows = refl;
-      trusted = trusted-is;
-      issued = issued-is;
-      trustedIn = λ g e. let w = trusted-from g e in let l = w .1 in has-in g N (w .0) (omega (arith, len)) (w .3);
-      issuedIn = λ x e.
-          let w = issued-from x e in
-          let l = w .1 in
-          let i : w .0 % 16 ≡ x .issuer = ap (λ (y : Licence). y .issuer) (w .3) in
-          (has-in (x .what) N (w .0 / 16) (omega (arith, len)) (ap (λ (y : Licence). y .what) (w .3)), omega arith);
+      flags = flag-is;
+      within = λ by g e.
+          let w = entry-from (record { by = by; what = g }) e in
+          let l = w .1 in (
+            has-in g N (w .0 / rowFlags) (omega (arith, len)) (ap (λ (x : Entry). x .what) (w .3)),
+            subst StatusForm (ap (λ (x : Entry). x .by) (w .3)) (status-form (w .0 % rowFlags) (omega arith)),
+          );
     },
   )

@@ -1,5 +1,5 @@
 -- At a call no choice is left: book, marks and bytes decide the answer, the book and the marks that it leaves.
-use Prim.Native.Nat.{ℕ, zero, suc, _+_, _*_, _/_, _%_, _<_}
+use Prim.Native.Nat.{ℕ, _+_, _*_, _/_, _%_, _<_}
 use mathlib.Core.Path.{_≡_, sym, ap, _∙_}
 use mathlib.Core.List.{List}
 use mathlib.Core.Logic.{_⊎_, inl, inr}
@@ -8,9 +8,10 @@ use native.Mathlib.Decide.{decLt}
 use lib.ListN.{length, getD}
 use lib.Seq.{ext-getD}
 use Rattle.sorts.specs.Blank.{noRow}
+use Rattle.sorts.specs.Flags.{rowFlags, flagPlace}
+use Rattle.sorts.proofs.Flags.{statusOf, status-flag, status-form}
 use Rattle.rows.proofs.Shown.{Shown}
-use Rattle.reader.proofs.Fuse.{ext-refl}
-use Rattle.rules.specs.Rules.{flag}
+use Rattle.rows.proofs.Appended.{ext-refl}
 use Rattle.book.specs.declared.Book.{Book}
 use Rattle.book.specs.declared.Answered.{Answered}
 use Rattle.book.specs.Machine.{State, step}
@@ -23,43 +24,43 @@ use Rattle.demands.proofs.Shown.{shows-some}
 -- two books in form that show the same state are the same
 
 module _ {b b′ : Book} {m m′ : List ℕ} {M : State} (f : BookForm b m) (f′ : BookForm b′ m′) (sh : Shows b M) (sh′ : Shows b′ M) where
-  S : Shown (b .rows) (b .count) (M .N)
+  S : Shown (b .table .rows) (b .table .count) (M .N)
   S = shown b m M f sh
 
-  S′ : Shown (b′ .rows) (b′ .count) (M .N)
+  S′ : Shown (b′ .table .rows) (b′ .table .count) (M .N)
   S′ = shown b′ m′ M f′ sh′
 
-  same-count : b .count ≡ b′ .count
+  same-count : b .table .count ≡ b′ .table .count
   same-count = S .counted ∙ sym (S′ .counted)
 
-  row-at : (g : ℕ) → g < 64 → Dec (g < b .count) → getD (b .rows) g noRow ≡ getD (b′ .rows) g noRow
+  row-at : (g : ℕ) → g < 64 → Dec (g < b .table .count) → getD (b .table .rows) g noRow ≡ getD (b′ .table .rows) g noRow
   row-at g l (yes h) = shown-more S S′ (ext-refl (M .N)) g h
   row-at g l (no h) = S .unused g (omega arith) l ∙ sym (S′ .unused g (omega (arith, same-count)) l)
 
-  same-rows : b .rows ≡ b′ .rows
-  same-rows = ext-getD noRow (b .rows) (b′ .rows) (S .places ∙ sym (S′ .places)) (λ g l. let p = S .places in row-at g (omega arith) (decLt g (b .count)))
+  same-rows : b .table .rows ≡ b′ .table .rows
+  same-rows = ext-getD noRow (b .table .rows) (b′ .table .rows) (S .places ∙ sym (S′ .places)) (λ g l. let p = S .places in row-at g (omega arith) (decLt g (b .table .count)))
 
-  -- a flag of row g, by how it stands
-  flag-at : (g j : ℕ) → j < 17 → g < length (M .N) → flag (b .flags) g j ≡ flag (b′ .flags) g j
-  flag-at g zero k l = sh .trusted g l ∙ sym (sh′ .trusted g l)
-  flag-at g (suc p) k l =
-      let e : 17 * g + suc p ≡ 17 * g + (1 + p) = omega arith in
-      ap (λ (i : ℕ). getD (b .flags) i 0) e ∙ sh .issued g p l (omega arith) ∙ sym (sh′ .issued g p l (omega arith)) ∙ ap (λ (i : ℕ). getD (b′ .flags) i 0) (sym e)
+  -- a flag of row g, by its status
+  flag-at : (g j : ℕ) → j < rowFlags → g < length (M .N) → getD (b .flags) (rowFlags * g + j) 0 ≡ getD (b′ .flags) (rowFlags * g + j) 0
+  flag-at g j k l =
+      let e : rowFlags * g + j ≡ flagPlace (statusOf j) g = ap (λ (i : ℕ). rowFlags * g + i) (sym (status-flag j)) in
+      let w = status-form j k in
+      ap (λ (i : ℕ). getD (b .flags) i 0) e ∙ sh .flags (statusOf j) g w l ∙ sym (sh′ .flags (statusOf j) g w l) ∙ ap (λ (i : ℕ). getD (b′ .flags) i 0) (sym e)
 
-  flags-at : (i : ℕ) → Dec (i / 17 < length (M .N)) → getD (b .flags) i 0 ≡ getD (b′ .flags) i 0
+  flags-at : (i : ℕ) → Dec (i / rowFlags < length (M .N)) → getD (b .flags) i 0 ≡ getD (b′ .flags) i 0
   flags-at i (yes h) =
-      let e : i ≡ 17 * (i / 17) + i % 17 = omega arith in
-      ap (λ (k : ℕ). getD (b .flags) k 0) e ∙ flag-at (i / 17) (i % 17) (omega arith) h ∙ ap (λ (k : ℕ). getD (b′ .flags) k 0) (sym e)
+      let e : i ≡ rowFlags * (i / rowFlags) + i % rowFlags = omega arith in
+      ap (λ (k : ℕ). getD (b .flags) k 0) e ∙ flag-at (i / rowFlags) (i % rowFlags) (omega arith) h ∙ ap (λ (k : ℕ). getD (b′ .flags) k 0) (sym e)
   flags-at i (no h) =
       let c = S .counted in
       let c′ = S′ .counted in
       f .unflagged i (omega arith) ∙ sym (f′ .unflagged i (omega arith))
 
   same-flags : b .flags ≡ b′ .flags
-  same-flags = ext-getD 0 (b .flags) (b′ .flags) (f .flags ∙ sym (f′ .flags)) (λ i l. flags-at i (decLt (i / 17) (length (M .N))))
+  same-flags = ext-getD 0 (b .flags) (b′ .flags) (f .flags ∙ sym (f′ .flags)) (λ i l. flags-at i (decLt (i / rowFlags) (length (M .N))))
 
   pub same-book : b ≡ b′
-  same-book = λ i. record { rows = same-rows i; count = same-count i; flags = same-flags i }
+  same-book = λ i. record { table = record { rows = same-rows i; count = same-count i }; flags = same-flags i }
 
 -- Two calls with the same book in form, marks and bytes have the same answer, bytes used, book and marks.
 no-choice-formed : (b : Book) (m s : List ℕ) (M : State) → BookForm b m → Shows b M → (r r′ : Answered) (n n′ : List ℕ) → Called b m s r n → Called b m s r′ n′ → (r ≡ r′) × (n ≡ n′)

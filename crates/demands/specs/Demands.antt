@@ -7,30 +7,22 @@ use mathlib.Core.Option.{some}
 use mathlib.Core.Logic.{_↔_}
 use lib.IntN.{pos, _-ℤ_}
 use lib.ListN.{getD}
-use Rattle.rows.specs.Numbering.{has, number, numberConcl}
-use Rattle.reader.specs.Bytes.{Outcome, got, refused}
-use Rattle.reader.specs.Records.{Record, TG, ST, LI, WD, QU, readRecord}
+use Rattle.rows.specs.Numbering.{number, numberConcl}
+use Rattle.ranges.specs.Bytes.{Outcome, got, refused}
+use Rattle.reader.specs.Records.{Record, enter, remove, query, readRecord}
 use Rattle.reader.specs.Requests.{fits}
 use Rattle.book.specs.declared.Book.{Book}
 use Rattle.book.specs.declared.Answer.{Answer}
 use Rattle.book.specs.declared.Answer.the-variants.{Permitted, NotPermitted, Changed, Refused}
-use Rattle.book.specs.declared.Counts.{Counts}
+use Rattle.marks.specs.declared.Counts.{Counts}
 use Rattle.book.specs.declared.Answered.{Answered}
-use Rattle.book.specs.Machine.{State, changes, asks, hasLicence, start, step}
-use Rattle.book.specs.Closed.{ClosedSet}
-use Rattle.book.specs.Counts.{gains, ones, countsOf}
+use Rattle.book.specs.Machine.{State, changes, asks, stands, start, step}
+use Rattle.book.specs.Closed.{Stands, Lacking}
+use Rattle.marks.specs.Counts.{gains, ones, countsOf}
 use Rattle.book.specs.Books.{BookForm, Shows}
 use Rattle.book.specs.Calls.{answerOf}
 use Rattle.book.specs.Chains.{Call, records, runs}
 use Rattle.demands.specs.Worth.{worth, allGains, allLosses}
-
--- A statement stands for the machine when it is in every closed set.
-abbrev pub Stands : State → ℕ → Type 1
-Stands M n = (S : ℕ → Type 0) → ClosedSet M S → S n
-
--- Some closed set lacks it.
-abbrev pub Lacking : State → ℕ → Type 1
-Lacking M n = (S : ℕ → Type 0) × ClosedSet M S × (S n → ⊥)
 
 -- DEMAND 2, of a query that asks for the conclusion c and was answered a, where the machine is then in the state M: "permitted
 -- exactly when each closed set contains the conclusion, not permitted exactly when some closed set lacks it".
@@ -56,11 +48,9 @@ NoGain c = (worth (c .gave .answer) .gained ≡ 0) × (gains (c .marks) (c .left
 -- "no enter or issue loses, no strike or withdrawal gains", whether accepted or refused; a query and a record with a fault do
 -- neither.
 abbrev pub OneWay : Outcome Record → Call → Type 0
-OneWay (got (TG g) n) c = NoLoss c
-OneWay (got (ST g) n) c = NoGain c
-OneWay (got (LI p g) n) c = NoLoss c
-OneWay (got (WD p g) n) c = NoGain c
-OneWay (got (QU e) n) c = NoLoss c × NoGain c
+OneWay (got (enter by g) n) c = NoLoss c
+OneWay (got (remove by g) n) c = NoGain c
+OneWay (got (query e) n) c = NoLoss c × NoGain c
 OneWay (refused k) c = NoLoss c × NoGain c
 
 unfoldable pub AllOneWay : List Call → Type 0
@@ -84,11 +74,9 @@ pub record Demand3 (cs : List Call) (b : Book) (m : List ℕ) : Type 1 where
 -- number; 6 "the grants that the record would number and those in N exceed 64"; 7 "the grant or licence to remove doesn't stand".
 abbrev pub Turned : State → Outcome Record → ℕ → Type 0
 Turned M (refused j) k = j ≡ k
-Turned M (got (TG g) n) k = (fits (number g (M .N)) ≡ false) × (k ≡ 6)
-Turned M (got (ST g) n) k = (has g (M .T) ≡ false) × (k ≡ 7)
-Turned M (got (LI p g) n) k = (fits (number g (M .N)) ≡ false) × (k ≡ 6)
-Turned M (got (WD p g) n) k = (hasLicence (record { issuer = p; what = g }) (M .L) ≡ false) × (k ≡ 7)
-Turned M (got (QU c) n) k = (fits (numberConcl c (M .N)) ≡ false) × (k ≡ 6)
+Turned M (got (enter by g) n) k = (fits (number g (M .N)) ≡ false) × (k ≡ 6)
+Turned M (got (remove by g) n) k = (stands M by g ≡ false) × (k ≡ 7)
+Turned M (got (query c) n) k = (fits (numberConcl c (M .N)) ≡ false) × (k ≡ 6)
 
 -- A call on a book in form that shows M: each answer under its condition and no other.
 pub record Answers (M : State) (b : Book) (m s : List ℕ) (r : Answered) (n : List ℕ) : Type 0 where

@@ -1,6 +1,3 @@
-use mathlib.Core.Path.{subst}
-use Rattle.rows.specs.declared.Table.{Table}
-use Rattle.reader.specs.Requests.{Reads}
 use Rattle.book.specs.Books.{BookForm}
 use Rattle.book.proofs.Decided.{decided-no, decided-yes}
 use Rattle.book.proofs.Following.{ready}
@@ -8,33 +5,44 @@ use Rattle.book.proofs.Keeping.{called-unformed, called-formed}
 use borrow.Author.Needs.{needs}
 use Rattle.book.proofs.call.Statement.{statement}
 use Rattle.book.proofs.call.Tie as tie
+use Rattle.book.proofs.call.Reads as reads
+use Rattle.book.proofs.call.Lts as lts
+use Rattle.book.proofs.apply.Reads as apply-reads
+use Rattle.book.proofs.book_form.in_form.Reads as in-form-reads
+use Rattle.book.proofs.refuse.Reads as refuse-reads
+use Rattle.reader.proofs.records.read_record.Reads as read-record-reads
 
+-- src/lib.rt:166:9
 in-form-requires : tie.Need-in-form-requires
 in-form-requires c κs = search needs
 
+-- src/lib.rt:167:9
 refuse-requires : tie.Need-refuse-requires
 refuse-requires c κs = search needs
 
+-- src/lib.rt:167:9
 same-length : tie.Need-same-length
 same-length c = search needs
 
+-- src/lib.rt:167:9
 returns : tie.Need-returns
 returns c = called-unformed _ _ _ _ (decided-no (BookForm ((c .before .before .before .before .before .before .args) .b) ((c .before .before .before .before .before .before .args) .marks .now)) ((c .before .before .in-form) .result) ((c .before .if1) .taken) ((c .before .before .in-form) .ensures)) ((c .refuse) .ensures)
 
-table-requires : tie.Need-table-requires
-table-requires c κs = search needs
-
+-- src/lib.rt:170:9
 read-record-requires : tie.Need-read-record-requires
 read-record-requires c κs = search needs
 
+-- src/lib.rt:171:5
 apply-requires : tie.Need-apply-requires
-apply-requires c κs = ready _ _ _ (decided-yes (BookForm ((c .before .before .before .before .before .before .before .before .args) .b) ((c .before .before .before .before .before .before .before .before .args) .marks .now)) ((c .before .before .before .before .in-form) .result) ((c .before .before .before .if1) .left) ((c .before .before .before .before .in-form) .ensures)) _ (subst (λ (t : Table). Reads ((c .before .before .before .before .before .before .before .before .args) .s .now) t ((c .before .read-record) .result)) ((c .before .before .table) .ensures) ((c .before .read-record) .ensures))
+apply-requires c κs = ready _ _ _ (decided-yes (BookForm ((c .before .before .before .before .before .before .before .before .args) .b) ((c .before .before .before .before .before .before .before .before .args) .marks .now)) ((c .before .before .before .before .in-form) .result) ((c .before .before .before .if1) .left) ((c .before .before .before .before .in-form) .ensures)) _ ((c .before .read-record) .ensures)
 
+-- src/lib.rt:163:1
 same-length-2 : tie.Need-same-length-2
 same-length-2 c = search needs
 
+-- src/lib.rt:163:1
 returns-2 : tie.Need-returns-2
-returns-2 c = called-formed _ _ _ ((c .before .before .before .before .read-record) .result) _ _ (decided-yes (BookForm ((c .before .before .before .before .before .before .before .before .before .before .before .args) .b) ((c .before .before .before .before .before .before .before .before .before .before .before .args) .marks .now)) ((c .before .before .before .before .before .before .before .in-form) .result) ((c .before .before .before .before .before .before .if1) .left) ((c .before .before .before .before .before .before .before .in-form) .ensures)) (subst (λ (t : Table). Reads ((c .before .before .before .before .before .before .before .before .before .before .before .args) .s .now) t ((c .before .before .before .before .read-record) .result)) ((c .before .before .before .before .before .table) .ensures) ((c .before .before .before .before .read-record) .ensures)) ((c .before .before .apply) .ensures .0) ((c .before .before .apply) .ensures .1)
+returns-2 c = called-formed _ _ _ ((c .before .before .before .before .read-record) .result) _ _ (decided-yes (BookForm ((c .before .before .before .before .before .before .before .before .before .before .before .args) .b) ((c .before .before .before .before .before .before .before .before .before .before .before .args) .marks .now)) ((c .before .before .before .before .before .before .before .in-form) .result) ((c .before .before .before .before .before .before .if1) .left) ((c .before .before .before .before .before .before .before .in-form) .ensures)) ((c .before .before .before .before .read-record) .ensures) ((c .before .before .apply) .ensures .0) ((c .before .before .apply) .ensures .1)
 
 pub call-spec : {M : Type 1} → statement M
 call-spec =
@@ -44,7 +52,6 @@ call-spec =
     refuse-requires
     same-length
     returns
-    table-requires
     read-record-requires
     apply-requires
     same-length-2

@@ -1,0 +1,31 @@
+-- Document 01: "The answer has three counts against the marks before: gained, the marks that went from 0 to 1 in that call;
+-- lost, those that went from 1 to 0; and the net, which is gained less lost and may be below zero."
+use Prim.Native.Nat.{ℕ, zero, _+_}
+use mathlib.Core.Bool.{cond, _&&_}
+use mathlib.Core.List.{List, [], _∷_}
+use lib.Dec.{eqb}
+use lib.IntN.{pos, _-ℤ_}
+use Rattle.marks.specs.declared.Counts.{Counts}
+
+-- 1 where a mark went from 0 to 1
+abbrev pub risen : ℕ → ℕ → ℕ
+risen a b = cond (eqb a 0 && eqb b 1) 1 0
+
+-- How many marks went from 0 to 1.
+unfoldable pub gains : List ℕ → List ℕ → ℕ
+gains [] n = 0
+gains (a ∷ m) [] = 0
+gains (a ∷ m) (b ∷ n) = risen a b + gains m n
+
+-- 1 where a mark stands
+abbrev pub oneOf : ℕ → ℕ
+oneOf a = cond (eqb a 1) 1 0
+
+-- How many marks stand.
+unfoldable pub ones : List ℕ → ℕ
+ones [] = 0
+ones (a ∷ m) = oneOf a + ones m
+
+-- The counts of marks m that became n.
+unfoldable pub countsOf : List ℕ → List ℕ → Counts
+countsOf m n = record { gained = gains m n; lost = gains n m; net = pos (gains m n) -ℤ pos (gains n m) }
