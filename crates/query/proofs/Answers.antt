@@ -2,12 +2,29 @@
 use mathlib.Core.Path.{_≡_, refl, ap, _∙_}
 use mathlib.Core.Bool.{Bool, true, false, cond}
 use Prim.Native.Nat.{ℕ, zero, suc}
-use mathlib.Core.List.{[], _∷_}
-use Rattle.worked.specs.Worked.{P7}
+use mathlib.Core.List.{List, [], _∷_}
+use lib.Dec.{T}
+use Rattle.rules.specs.Standing.{All}
+use Rattle.book.specs.Machine.{start}
+use Rattle.worked.specs.Worked.{Accepted, Example, P7}
+use Rattle.worked.proofs.Certified.{both, left, right}
+use Rattle.worked.proofs.Worked.{acceptedb, accepted}
+use Rattle.worked.proofs.Computing.{fed}
 use Rattle.query.specs.Query.{sayings, saidWithin, queryWithin, implied}
 use Rattle.query.specs.ByBudget.{saidByBudget}
 use Rattle.query.specs.Examples.{machineOf, Answered, examples, OrderTells, circle, circleSaid, ownRight, CircleEnds}
-use Rattle.query.proofs.Computing.{listed, fed, figures, within, told}
+use Rattle.query.proofs.Computing.{listed, figures, within, told}
+
+-- every record of the examples is accepted, by a test
+abbrev acceptedAll : List Example → Bool
+acceptedAll [] = true
+acceptedAll (x ∷ xs) = both (acceptedb start (x .entries)) (acceptedAll xs)
+
+all-accepted : (xs : List Example) → T (acceptedAll xs) → All (λ x. Accepted start (x .entries)) xs
+all-accepted [] t = tt
+all-accepted (x ∷ xs) t =
+    let a = acceptedb start (x .entries) in
+    (accepted start (x .entries) (left a (acceptedAll xs) t), all-accepted xs (right a (acceptedAll xs) t))
 
 -- one condition, of one part
 one : (t : Bool) → cond (cond t true false) true false ≡ t
@@ -33,7 +50,7 @@ circle-ends = record { byList = byList; rightByList = rightByList; byBudget = by
 -- The corrected query answers each example as its line says.
 pub answered : (spent : Bool) → Answered (λ M. implied M spent) examples
 unfolding listed fed figures within
-answered spent = record { accepted = refl; answers = refl }
+answered spent = record { accepted = all-accepted examples tt; answers = refl }
 
 pub order-tells : OrderTells
 unfolding listed fed figures told
@@ -43,6 +60,6 @@ order-tells = record { oneList = refl; oneListTurned = refl; oneListWritten = re
 pub circle-answered : (spent : Bool) → Answered (λ M. implied M spent) (circle ∷ [])
 unfolding listed fed figures queryWithin
 circle-answered spent = record {
-  accepted = refl;
+  accepted = all-accepted (circle ∷ []) tt;
   answers = ap (λ t. (t ∷ []) ∷ []) (one (saidWithin (machineOf circle) spent (suc sayings) circleSaid []) ∙ circle-ends .byList spent 36863);
 }

@@ -7,17 +7,17 @@ use mathlib.Core.Logic.{_↔_}
 use native.Mathlib.Omega.{arith}
 use Rattle.sorts.specs.Numbers.{conclusions}
 use Rattle.sorts.proofs.Marks.{number-lt}
-use Rattle.rows.specs.Numbering.{has, number, numberConcl}
+use Rattle.rows.specs.Numbering.{number, numberConcl}
 use Rattle.rows.specs.Form.{conclOf}
-use Rattle.reader.specs.Bytes.{Outcome, got, refused}
-use Rattle.reader.specs.Records.{Record, TG, ST, LI, WD, QU, readRecord}
+use Rattle.ranges.specs.Bytes.{Outcome, got, refused}
+use Rattle.reader.specs.Records.{Record, enter, remove, query, readRecord}
 use Rattle.reader.specs.Requests.{fits}
-use Rattle.reader.specs.Writing.{AllowedRecord}
-use Rattle.reader.proofs.Exact.{record-exact}
+use Rattle.exact.specs.Writing.{AllowedRecord}
+use Rattle.exact.proofs.Exact.{record-exact}
 use Rattle.book.specs.declared.Book.{Book}
 use Rattle.book.specs.declared.Answer.the-variants.{Permitted, NotPermitted}
 use Rattle.book.specs.declared.Answered.{Answered}
-use Rattle.book.specs.Machine.{State, Step, changes, asks, refuses, start, act, acted, step, hasLicence}
+use Rattle.book.specs.Machine.{State, Step, changes, asks, refuses, start, act, acted, step, stands}
 use Rattle.book.specs.Calls.{Called}
 use Rattle.book.specs.Chains.{freshBook, freshMarks, Call, Chain, records, runs}
 use Rattle.book.proofs.Forms.{concl-closed}
@@ -41,11 +41,9 @@ module _ (M : State) (c : ℕ) where
 
   asked-small : (q : Record) (n : ℕ) → AllowedRecord q → act M q n .says ≡ asks c → c < conclusions
   unfolding act AllowedRecord
-  asked-small (TG g) n a e = absurd (no-asks (fits (number g (M .N))) _ _ e refl 6 refl)
-  asked-small (ST g) n a e = absurd (no-asks (has g (M .T)) _ _ e refl 7 refl)
-  asked-small (LI p g) n a e = absurd (no-asks (fits (number g (M .N))) _ _ e refl 6 refl)
-  asked-small (WD p g) n a e = absurd (no-asks (hasLicence (record { issuer = p; what = g }) (M .L)) _ _ e refl 7 refl)
-  asked-small (QU d) n a e =
+  asked-small (enter by g) n a e = absurd (no-asks (fits (number g (M .N))) _ _ e refl 6 refl)
+  asked-small (remove by g) n a e = absurd (no-asks (stands M by g) _ _ e refl 7 refl)
+  asked-small (query d) n a e =
       let w = one-asks (fits (numberConcl d (M .N))) _ _ e _ refl 6 refl in
       subst (λ (k : ℕ). k < conclusions) (w .1) (number-lt (conclOf (numberConcl d (M .N)) d) (concl-closed d (M .N) (a .0) (w .0)))
 

@@ -7,7 +7,7 @@ use native.Mathlib.Omega.{arith}
 use lib.Dec.{eqb}
 use Rattle.sorts.specs.Numbers.{conclusions}
 use Rattle.book.specs.Machine.{State}
-use Rattle.query.specs.Figures.{Said, sameSaid, some, conditions, issuedBy, allowed, holds2}
+use Rattle.query.specs.Figures.{Said, sameSaid, some, conditions, issuedBy, allowed, holds2, licencesIn, trustedIn}
 use Rattle.query.specs.Query.{InTruth, InSaid, sayings, Formed, saidWithin, queryWithin, fullSaid}
 use Rattle.query.specs.ByBudget.{saidByBudget, queryByBudget, SameByBudget}
 use Rattle.query.proofs.Search.{walk, rounds, rounds-same, walk-same}
@@ -23,10 +23,10 @@ module _ (M : State) where
   said-rounds (suc k) d =
       some-same (λ d′. holds2 (λ dᵢ S. saidByBudget M false k dᵢ) d′ []) (every (rounds (saidStep M) k))
       (λ d′. holds-every (λ dᵢ S. saidByBudget M false k dᵢ) d′ [] ∙ every-same (saidByBudget M false k) (rounds (saidStep M) k) (said-rounds k) d′)
-      (conditions (M .N) (issuedBy (d .speaker) (M .L)) (d .what))
+      (conditions (M .N) (issuedBy (d .speaker) (licencesIn M)) (d .what))
 
-  allowed-same : (a b : ℕ → Bool) → ((e : ℕ) → a e ≡ b e) → allowed M a (M .L) ≡ allowed M b (M .L)
-  allowed-same a b h = ap (λ (c : ℕ → Bool). allowed M c (M .L)) (λ i e. h e i)
+  allowed-same : (a b : ℕ → Bool) → ((e : ℕ) → a e ≡ b e) → allowed M a (licencesIn M) ≡ allowed M b (licencesIn M)
+  allowed-same a b h = ap (λ (c : ℕ → Bool). allowed M c (licencesIn M)) (λ i e. h e i)
 
   abbrev ok : Said → Bool
   ok d = saidByBudget M false (suc sayings) d
@@ -36,8 +36,8 @@ module _ (M : State) where
   query-rounds zero e = refl
   query-rounds (suc k) e =
       some-same (λ d. holds2 (λ dᵢ S. ok dᵢ) d []) (every ok) (λ d. holds-every (λ dᵢ S. ok dᵢ) d [])
-      (conditions (M .N) (M .T ++ allowed M (λ e′. queryByBudget M false k e′) (M .L)) e)
-      ∙ ap (λ R. some (every ok) (conditions (M .N) (M .T ++ R) e)) (allowed-same (λ e′. queryByBudget M false k e′) (rounds (queryStep M ok) k) (query-rounds k))
+      (conditions (M .N) (trustedIn M ++ allowed M (λ e′. queryByBudget M false k e′) (licencesIn M)) e)
+      ∙ ap (λ R. some (every ok) (conditions (M .N) (trustedIn M ++ R) e)) (allowed-same (λ e′. queryByBudget M false k e′) (rounds (queryStep M ok) k) (query-rounds k))
 
   -- what is asked with the lists is the search
   said-walk : (k : ℕ) (d : Said) (S : List Said) → saidWithin M false k d S ≡ walk sameSaid (saidStep M) k d S

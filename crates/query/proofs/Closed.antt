@@ -18,14 +18,13 @@ use Rattle.rules.specs.Rules.{granted, condition, issueMark, firstValues, secon
 use Rattle.rules.specs.Standing.{All, In, each}
 use Rattle.book.specs.Machine.{State}
 use Rattle.book.specs.Books.{bit}
-use Rattle.book.specs.Closed.{rowAt, ClosedSet}
-use Rattle.demands.specs.Demands.{Stands, Lacking}
+use Rattle.book.specs.Closed.{rowAt, ClosedSet, Stands, Lacking}
 use Rattle.query.specs.Figures.{Said, sameSaid, Condition, saidUnder}
 use Rattle.query.specs.Query.{InSaid, InTruth, sayings, Formed}
 use Rattle.query.specs.Corrected.{Has, StandsAll, LackingOne}
 use Rattle.query.proofs.Search.{walk, search-sound, search-closed}
 use Rattle.query.proofs.Conditions.{every, every-out, every-in, Given, T-true}
-use Rattle.query.proofs.Steps.{saidStep, queryStep, heard, found, said-out, said-in, query-out, trust-in, authority-in, granted-in, said-under, every-at, at-every, said-is, said-search, query-search}
+use Rattle.query.proofs.Steps.{saidStep, queryStep, heard, found, said-out, said-in, query-out, trust-in, authority-in, ranged, granted-in, said-under, every-at, at-every, said-is, said-search, query-search}
 
 -- a test against what it tests and against its contrary
 decided : {A : Type 1} {B : Type 1} (t : Bool) → (T t → A) → (A → T t) → ((T t → ⊥) → B) → (A → B → ⊥) → ((t ≡ true) ↔ A) × ((t ≡ false) ↔ B)
@@ -42,7 +41,7 @@ module _ (M : State) (F : Formed M) where
         (w : Given (every a) (rowAt M g) e) → Met S (rowAt M g) (w .x) (w .y) (w .z)
     unfolding condition
     met a f g e l w i k =
-        let form = F .rows g l in
+        let form = ranged M F g l in
         f (saidUnder (getD (rowAt M g .conds) i blankCond) (w .x) (w .y) (w .z))
         (said-under M F (rowAt M g) form (w .x) (w .y) (w .z) (w .first) (w .second) (w .resource) i k)
         (every-at M F (rowAt M g) form (w .x) (w .y) (w .z) (w .first) (w .second) (w .resource) a (w .holds) i k)
@@ -100,7 +99,7 @@ module _ (M : State) (F : Formed M) where
   unfolding condition
   given-met g l x y z v m =
       let r = rowAt M g in
-      let form = F .rows g l in
+      let form = ranged M F g l in
       record {
         x = x;
         y = y;
@@ -119,15 +118,15 @@ module _ (M : State) (F : Formed M) where
   answers-closed = record {
     saying = λ g x y z p v small l m.
         let d : Said = record { speaker = p; what = granted (rowAt M g) x y z } in
-        let r : InSaid d = (small, granted-in M F (rowAt M g) (F .rows g (l .0)) x y z (v .first) (v .second) (v .resource)) in
+        let r : InSaid d = (small, granted-in M F (rowAt M g) (ranged M F g (l .0)) x y z (v .first) (v .second) (v .resource)) in
         subst T (sym (answer-said d r)) (search-closed (said-search M F) (suc sayings) (omega arith) d r (said-in M F (heard M) d g l (given-met g (l .0) x y z v m)));
     trust = λ g x y z v t m.
-        let r = granted-in M F (rowAt M g) (F .rows g (t .0)) x y z (v .first) (v .second) (v .resource) in
+        let r = granted-in M F (rowAt M g) (ranged M F g (t .0)) x y z (v .first) (v .second) (v .resource) in
         let e = granted (rowAt M g) x y z in
         subst T (sym (answer-truth e r)) (search-closed (query-search M F (heard M)) (suc conclusions) (omega arith) e r
         (trust-in M F (heard M) (found M) e g t (given-met g (t .0) x y z v m)));
     authority = λ g x y z p v small l i m.
-        let r = granted-in M F (rowAt M g) (F .rows g (l .0)) x y z (v .first) (v .second) (v .resource) in
+        let r = granted-in M F (rowAt M g) (ranged M F g (l .0)) x y z (v .first) (v .second) (v .resource) in
         let e = granted (rowAt M g) x y z in
         let few = F .few in
         let n = l .0 in
@@ -175,13 +174,13 @@ module _ (M : State) (F : Formed M) where
   marks-closed : ClosedSet M (In (answerMarks allMarks))
   marks-closed = record {
     saying = λ g x y z p v small l m.
-        let e = granted-in M F (rowAt M g) (F .rows g (l .0)) x y z (v .first) (v .second) (v .resource) in
+        let e = granted-in M F (rowAt M g) (ranged M F g (l .0)) x y z (v .first) (v .second) (v .resource) in
         in-marks allMarks (saidMark p (granted (rowAt M g) x y z)) (omega arith) (answers-closed .saying g x y z p v small l (λ i k. marks-in allMarks _ (m i k)));
     trust = λ g x y z v t m.
-        let e = granted-in M F (rowAt M g) (F .rows g (t .0)) x y z (v .first) (v .second) (v .resource) in
+        let e = granted-in M F (rowAt M g) (ranged M F g (t .0)) x y z (v .first) (v .second) (v .resource) in
         in-marks allMarks (granted (rowAt M g) x y z) (omega arith) (answers-closed .trust g x y z v t (λ i k. marks-in allMarks _ (m i k)));
     authority = λ g x y z p v small l r m.
-        let e = granted-in M F (rowAt M g) (F .rows g (l .0)) x y z (v .first) (v .second) (v .resource) in
+        let e = granted-in M F (rowAt M g) (ranged M F g (l .0)) x y z (v .first) (v .second) (v .resource) in
         in-marks allMarks (granted (rowAt M g) x y z) (omega arith) (answers-closed .authority g x y z p v small l (marks-in allMarks _ r) (λ i k. marks-in allMarks _ (m i k)));
   }
 

@@ -1,5 +1,5 @@
 -- The figures' loops over licences, grants and closed substitutions, read as the three rules read them.
-use mathlib.Core.Path.{_≡_, refl, sym, subst}
+use mathlib.Core.Path.{_≡_, refl, sym, ap, subst, _∙_}
 use mathlib.Core.Bool.{Bool, true, false, cond}
 use mathlib.Core.List.{List, [], _∷_, _++_}
 use mathlib.Core.Logic.{_⊎_, inl, inr, ⊎-elim}
@@ -10,16 +10,17 @@ use native.Mathlib.Decide.{ℕ-discrete}
 use lib.Dec.{T, eqb, eqb→eq, eqb-refl}
 use lib.ListN.{length, getD}
 use Rattle.sorts.specs.declared.Row.{Row}
+use Rattle.sorts.specs.declared.Status.{Status}
+use Rattle.sorts.specs.declared.Status.the-variants.{Trusted, Issued}
 use Rattle.rows.specs.Written.{Grant}
-use Rattle.rows.specs.Numbering.{place, has}
-use Rattle.rows.specs.Form.{noGrant, rowOf}
-use Rattle.rows.proofs.Place.{place-at, has-in, has-lt}
+use Rattle.rows.specs.Numbering.{place}
+use Rattle.rows.specs.Form.{rowOf}
 use Rattle.rules.specs.Rules.{granted, issueMark, firstValues, secondValues, resourceValues}
 use Rattle.rules.specs.Standing.{All, Some, each}
 use Rattle.rules.proofs.Lists.{some-each, some-one, some-join}
-use Rattle.book.specs.Machine.{State, Licence, hasLicence, sameLicence}
-use Rattle.book.proofs.Sets.{licence-eq, licence-refl}
-use Rattle.query.specs.Figures.{Said, Condition, some, conditionUnder, conditionsOf, conditions, issuedBy, allowed, holds2}
+use Rattle.book.specs.Machine.{State, Entry, sameEntry, member}
+use Rattle.book.proofs.Sets.{entry-refl, member-cases}
+use Rattle.query.specs.Figures.{Said, Condition, some, conditionUnder, conditionsOf, conditions, issuedBy, allowed, holds2, Licence, licenceOf, trustedOf, licences, trusts}
 
 -- tests on lists
 
@@ -221,39 +222,82 @@ module _ (P : Grant → Type 0) where
         go false ih (inl k) = absurd (k .0)
         go false ih (inr k) = ih k
 
--- what is in a set of the machine's is in the list
-
-pub has-some : (g : Grant) (R : List Grant) → has g R ≡ true → Some (λ h. h ≡ g) R
-has-some g R e = let l = has-lt g R e in subst (λ (k : Grant). Some (λ h. h ≡ k) R) (place-at g R l) (place-some noGrant R (place g R) l)
-
-pub some-has : (g : Grant) (R : List Grant) → Some (λ h. h ≡ g) R → has g R ≡ true
-some-has g R h = let w = some-place noGrant R g h in has-in g R (w .0) (w .1) (w .2)
+-- what stands for the machine is in the figures' L and R, and they have nothing else
 
 pub T-true : (t : Bool) → T t → t ≡ true
 T-true true h = refl
 T-true false h = absurd h
 
-same-licence : (l m : Licence) → T (sameLicence l m) → m ≡ l
-same-licence l m h = sym (licence-eq l m (T-true (sameLicence l m) h))
+is-first : (x : Entry) (E : List Entry) → member x (x ∷ E) ≡ true
+unfolding member
+is-first x E = rw (entry-refl x)
 
-licence-same : (l : Licence) → T (sameLicence l l)
-licence-same l = subst T (sym (licence-refl l)) tt
+is-later : (x y : Entry) (E : List Entry) → member x E ≡ true → member x (y ∷ E) ≡ true
+unfolding member
+is-later x y E h = go (sameEntry x y)
+  where
+    go : (t : Bool) → cond t true (member x E) ≡ true
+    go true = refl
+    go false = h
 
-pub licence-some : (l : Licence) (L : List Licence) → hasLicence l L ≡ true → Some (λ m. m ≡ l) L
-unfolding hasLicence
+-- who issued it, where somebody did
+abbrev issuerOf : Status → ℕ
+issuerOf Trusted = 0
+issuerOf (Issued p) = p .0
+
+-- a licence and a trusted grant, as the machine has them
+abbrev issued : Licence → Entry
+issued l = record { by = Issued (record { 0 = l .issuer }); what = l .what }
+
+abbrev trusted : Grant → Entry
+trusted g = record { by = Trusted; what = g }
+
+pub licence-some : (l : Licence) (E : List Entry) → member (issued l) E ≡ true → Some (λ m. m ≡ l) (licences E)
+unfolding licences member
 licence-some l [] e = absurd (subst T (sym e) tt)
-licence-some l (m ∷ L) e = go (sameLicence l m) (same-licence l m) (licence-some l L) e
+licence-some l (y ∷ E) e = go (y .by) refl (λ h. licence-some l E h) (member-cases (issued l) y E e)
   where
-    go : (t : Bool) → (T t → m ≡ l) → (hasLicence l L ≡ true → Some (λ k. k ≡ l) L) → cond t true (hasLicence l L) ≡ true → Some (λ k. k ≡ l) (m ∷ L)
-    go true f ih e′ = inl (f tt)
-    go false f ih e′ = inr (ih e′)
+    go : (s : Status) → y .by ≡ s → (member (issued l) E ≡ true → Some (λ m. m ≡ l) (licences E)) →
+        (issued l ≡ y) ⊎ (member (issued l) E ≡ true) → Some (λ m. m ≡ l) (licenceOf s (y .what) ++ licences E)
+    go Trusted q ih (inl d) = let z : _≡_ {A = ℕ} 0 1 = cc in absurd (omega arith)
+    go Trusted q ih (inr h) = ih h
+    go (Issued p) q ih (inl d) = inl (λ i. record { issuer = issuer i; what = sym d i .what })
+      where
+        issuer : p .0 ≡ l .issuer
+        issuer = ap (λ (s : Status). issuerOf s) (sym q ∙ ap (λ (x : Entry). x .by) (sym d))
+    go (Issued p) q ih (inr h) = inr (ih h)
 
-pub some-licence : (l : Licence) (L : List Licence) → Some (λ m. m ≡ l) L → hasLicence l L ≡ true
-unfolding hasLicence
+pub some-licence : (l : Licence) (E : List Entry) → Some (λ m. m ≡ l) (licences E) → member (issued l) E ≡ true
+unfolding licences
 some-licence l [] h = absurd h
-some-licence l (m ∷ L) h = go (sameLicence l m) (λ e. subst (λ (k : Licence). T (sameLicence l k)) (sym e) (licence-same l)) (some-licence l L) h
+some-licence l (y ∷ E) h = go (y .by) refl (λ k. is-later (issued l) y E (some-licence l E k)) h
   where
-    go : (t : Bool) → (m ≡ l → T t) → (Some (λ k. k ≡ l) L → hasLicence l L ≡ true) → Some (λ k. k ≡ l) (m ∷ L) → cond t true (hasLicence l L) ≡ true
-    go true f ih k = refl
-    go false f ih (inl k) = absurd (f k)
-    go false f ih (inr k) = ih k
+    go : (s : Status) → y .by ≡ s → (Some (λ m. m ≡ l) (licences E) → member (issued l) (y ∷ E) ≡ true) →
+        Some (λ m. m ≡ l) (licenceOf s (y .what) ++ licences E) → member (issued l) (y ∷ E) ≡ true
+    go Trusted q ih k = ih k
+    go (Issued p) q ih (inl d) =
+        subst (λ (x : Entry). member x (y ∷ E) ≡ true) (λ i. record { by = (q ∙ ap (λ (m : Licence). Issued (record { 0 = m .issuer })) d) i; what = d i .what }) (is-first y E)
+    go (Issued p) q ih (inr k) = ih k
+
+pub trusted-some : (g : Grant) (E : List Entry) → member (trusted g) E ≡ true → Some (λ h. h ≡ g) (trusts E)
+unfolding trusts member
+trusted-some g [] e = absurd (subst T (sym e) tt)
+trusted-some g (y ∷ E) e = go (y .by) refl (λ h. trusted-some g E h) (member-cases (trusted g) y E e)
+  where
+    go : (s : Status) → y .by ≡ s → (member (trusted g) E ≡ true → Some (λ h. h ≡ g) (trusts E)) →
+        (trusted g ≡ y) ⊎ (member (trusted g) E ≡ true) → Some (λ h. h ≡ g) (trustedOf s (y .what) ++ trusts E)
+    go Trusted q ih (inl d) = inl (ap (λ (x : Entry). x .what) (sym d))
+    go Trusted q ih (inr h) = inr (ih h)
+    go (Issued p) q ih (inl d) = let z : _≡_ {A = ℕ} 0 1 = cc in absurd (omega arith)
+    go (Issued p) q ih (inr h) = ih h
+
+pub some-trusted : (g : Grant) (E : List Entry) → Some (λ h. h ≡ g) (trusts E) → member (trusted g) E ≡ true
+unfolding trusts
+some-trusted g [] h = absurd h
+some-trusted g (y ∷ E) h = go (y .by) refl (λ k. is-later (trusted g) y E (some-trusted g E k)) h
+  where
+    go : (s : Status) → y .by ≡ s → (Some (λ h. h ≡ g) (trusts E) → member (trusted g) (y ∷ E) ≡ true) →
+        Some (λ h. h ≡ g) (trustedOf s (y .what) ++ trusts E) → member (trusted g) (y ∷ E) ≡ true
+    go Trusted q ih (inl d) = subst (λ (x : Entry). member x (y ∷ E) ≡ true) (λ i. record { by = q i; what = d i }) (is-first y E)
+    go Trusted q ih (inr k) = ih k
+    go (Issued p) q ih k = ih k

@@ -12,8 +12,8 @@ use Rattle.rows.specs.Form.{rowOf}
 use Rattle.rules.specs.Rules.{issueMark}
 use Rattle.rules.specs.Standing.{All, Some}
 use Rattle.rules.proofs.Lists.{some-one, some-join}
-use Rattle.book.specs.Machine.{State, Licence}
-use Rattle.query.specs.Figures.{Said, sameSaid, Condition, some, conditions, issuedBy, allowed, holds2, said2, auth2, query2}
+use Rattle.book.specs.Machine.{State}
+use Rattle.query.specs.Figures.{Said, sameSaid, Condition, some, conditions, issuedBy, allowed, holds2, said2, auth2, query2, Licence, licencesIn, trustedIn}
 use Rattle.query.specs.Query.{sayings, saidWithin, queryWithin, fullSaid, implied}
 use Rattle.query.specs.Executions.{Order, SameMembers, Fair, asWritten, turn, partsTurned, Asked, Told, Asking, tell, Passing, handedBack, someTold, everyTold, saidTold, holdsTold, allowedTold, authTold, queryTold, impliedTold}
 use Rattle.query.proofs.Search.{same-answer}
@@ -52,19 +52,19 @@ module _ {A : Type 0} where
 
 -- the order of the licences
 module _ (M : State) (f : Condition → Bool) (a : ℕ → Bool) (e : ℕ) where
-  allowed-moved : (L L′ : List Licence) → SameMembers L L′ → T (some f (conditions (M .N) (M .T ++ allowed M a L) e)) → T (some f (conditions (M .N) (M .T ++ allowed M a L′) e))
+  allowed-moved : (L L′ : List Licence) → SameMembers L L′ → T (some f (conditions (M .N) (trustedIn M ++ allowed M a L) e)) → T (some f (conditions (M .N) (trustedIn M ++ allowed M a L′) e))
   allowed-moved L L′ s h =
       let P : Grant → Type 0 = λ g. Given f (rowOf (M .N) g) e in
       let Q : Licence → Type 0 = λ l. T (a (issueMark (l .issuer) (place (l .what) (M .N)))) × P (l .what) in
-      found-in f (M .N) (M .T ++ allowed M a L′) e
+      found-in f (M .N) (trustedIn M ++ allowed M a L′) e
       (⊎-elim
-      (some-left P (M .T) (allowed M a L′))
-      (λ u. some-right P (M .T) (allowed M a L′) (allowed-in P M a L′ (some-moved Q L L′ s (allowed-out P M a L u))))
-      (some-join P (M .T) (allowed M a L) (found-out f (M .N) (M .T ++ allowed M a L) e h)))
+      (some-left P (trustedIn M) (allowed M a L′))
+      (λ u. some-right P (trustedIn M) (allowed M a L′) (allowed-in P M a L′ (some-moved Q L L′ s (allowed-out P M a L u))))
+      (some-join P (trustedIn M) (allowed M a L) (found-out f (M .N) (trustedIn M ++ allowed M a L) e h)))
 
-  allowed-members : (L L′ : List Licence) → SameMembers L L′ → some f (conditions (M .N) (M .T ++ allowed M a L) e) ≡ some f (conditions (M .N) (M .T ++ allowed M a L′) e)
+  allowed-members : (L L′ : List Licence) → SameMembers L L′ → some f (conditions (M .N) (trustedIn M ++ allowed M a L) e) ≡ some f (conditions (M .N) (trustedIn M ++ allowed M a L′) e)
   allowed-members L L′ s =
-      same-answer (some f (conditions (M .N) (M .T ++ allowed M a L) e)) (some f (conditions (M .N) (M .T ++ allowed M a L′) e))
+      same-answer (some f (conditions (M .N) (trustedIn M ++ allowed M a L) e)) (some f (conditions (M .N) (trustedIn M ++ allowed M a L′) e))
       (allowed-moved L L′ s) (allowed-moved L′ L (back-members L L′ s))
 
 cond-answer : {A : Type 0} (t : Bool) (r r′ : Told A) → cond t r r′ .answer ≡ cond t (r .answer) (r′ .answer)
@@ -103,7 +103,7 @@ module _ (pass : Passing) (back : (got left : Asked) → pass got left ≡ got) 
     said-told zero d w = refl
     said-told (suc k) d w =
         let next : Asked = record { E = w .E; S = d ∷ w .S } in
-        let D = conditions (M .N) (issuedBy (d .speaker) (M .L)) (d .what) in
+        let D = conditions (M .N) (issuedBy (d .speaker) (licencesIn M)) (d .what) in
         let f : Condition → Asking Bool = λ d′ w′. everyTold pass (λ dᵢ w″. saidTold pass order M k dᵢ w″) (order .parts d′) w′ in
         let g : Condition → Bool = λ d′. holds2 (λ dᵢ S. saidWithin M false k dᵢ S) d′ (d ∷ w .S) in
         cond-answer (some (sameSaid d) (w .S)) (tell false w) (someTold pass f (order .tried D) next)
@@ -146,9 +146,9 @@ module _ (pass : Passing) (back : (got left : Asked) → pass got left ≡ got) 
         let f : ℕ → Asking Bool = λ e′ w′. queryTold pass order M k e′ w′ in
         let g : ℕ → Bool = λ e′. queryWithin M false k e′ (e ∷ w .E) in
         let ih : (e′ : ℕ) → f e′ next .answer ≡ g e′ = λ e′. query-told k e′ next s in
-        let L = order .licences (M .L) in
+        let L = order .licences (licencesIn M) in
         let r = allowedTold pass order M f L next in
-        let D : Told (List Condition) = record { answer = conditions (M .N) (M .T ++ r .answer) e; asked = r .asked } in
+        let D : Told (List Condition) = record { answer = conditions (M .N) (trustedIn M ++ r .answer) e; asked = r .asked } in
         let listed = some (eqb e) (w .E) in
         let C = cond listed (tell [] w) D in
         let ok : Condition → Bool = λ d. holds2 (fullSaid M false) d [] in
@@ -157,9 +157,9 @@ module _ (pass : Passing) (back : (got left : Asked) → pass got left ≡ got) 
         ∙ some-members ok (order .tried (C .answer)) (C .answer) (fair .tried (C .answer))
         ∙ ap (some ok)
         (cond-answer listed (tell [] w) D
-        ∙ ap (λ (R : List Grant). cond listed [] (conditions (M .N) (M .T ++ R) e)) (allowed-told f g next ih L))
-        ∙ some-either ok listed (conditions (M .N) (M .T ++ allowed M g L) e) (conditions (M .N) (M .T ++ allowed M g (M .L)) e)
-        (allowed-members M ok g e L (M .L) (fair .licences (M .L)))
+        ∙ ap (λ (R : List Grant). cond listed [] (conditions (M .N) (trustedIn M ++ R) e)) (allowed-told f g next ih L))
+        ∙ some-either ok listed (conditions (M .N) (trustedIn M ++ allowed M g L) e) (conditions (M .N) (trustedIn M ++ allowed M g (licencesIn M)) e)
+        (allowed-members M ok g e L (licencesIn M) (fair .licences (licencesIn M)))
       where
         unasked : (t : Bool) (D : Told (List Condition)) → D .asked .S ≡ [] → cond t (tell [] w) D .asked .S ≡ []
         unasked true D q = s

@@ -9,8 +9,8 @@ use lib.Dec.{T, eqb}
 use Rattle.sorts.specs.Numbers.{saidMark, conclusions}
 use Rattle.rules.specs.Standing.{All}
 use Rattle.book.specs.Machine.{State}
-use Rattle.demands.specs.Demands.{Stands, Lacking}
-use Rattle.query.specs.Figures.{Said, Condition, sameSaid, some, conditions, issuedBy, allowed, holds2, said2, auth2, query2}
+use Rattle.book.specs.Closed.{Stands, Lacking}
+use Rattle.query.specs.Figures.{Said, Condition, sameSaid, some, conditions, issuedBy, allowed, holds2, said2, auth2, query2, licencesIn, trustedIn}
 use Rattle.query.specs.Query.{InTruth, InSaid, Single, sayings, Formed, Follows, saidWithin, queryWithin, fullQuery, fullSaid}
 use Rattle.query.specs.Corrected.{Has, StandsAll, LackingOne, AsClosedSets, Ends}
 use Rattle.query.proofs.Search.{walk, same-answer, ends, solved}
@@ -28,13 +28,13 @@ module _ (M : State) (said : Said → List Said → Bool) where
   unfolding said2
   said-figure d S =
       ap (cond (some (sameSaid d) S) false)
-      (some-same (λ d′. holds2 said d′ (d ∷ S)) (every (λ d′. said d′ (d ∷ S))) (λ d′. holds-every said d′ (d ∷ S)) (conditions (M .N) (issuedBy (d .speaker) (M .L)) (d .what)))
+      (some-same (λ d′. holds2 said d′ (d ∷ S)) (every (λ d′. said d′ (d ∷ S))) (λ d′. holds-every said d′ (d ∷ S)) (conditions (M .N) (issuedBy (d .speaker) (licencesIn M)) (d .what)))
 
   pub query-figure : (query : ℕ → List ℕ → Bool) (e : ℕ) (E : List ℕ) →
       query2 M query said e E ≡ cond (some (eqb e) E) false (queryStep M (λ d. said d []) (λ e′. query e′ (e ∷ E)) e)
   unfolding query2 auth2
   query-figure query e E =
-      let D = conditions (M .N) (M .T ++ allowed M (λ e′. query e′ (e ∷ E)) (M .L)) e in
+      let D = conditions (M .N) (trustedIn M ++ allowed M (λ e′. query e′ (e ∷ E)) (licencesIn M)) e in
       some-same (λ d. holds2 said d []) (every (λ d. said d [])) (λ d. holds-every said d []) (cond (some (eqb e) E) [] D)
       ∙ some-cond (every (λ d. said d [])) (some (eqb e) E) D
 

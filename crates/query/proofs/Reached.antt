@@ -3,10 +3,10 @@ use mathlib.Core.Path.{subst}
 use mathlib.Core.List.{List}
 use Prim.Native.Nat.{ℕ}
 use native.Mathlib.Omega.{arith}
-use Rattle.rules.specs.RowForm.{RowForm}
+use Rattle.sorts.specs.RowForm.{RowForm}
 use Rattle.book.specs.declared.Book.{Book}
 use Rattle.book.specs.Machine.{State, start}
-use Rattle.book.specs.Books.{tableOf, BookForm, Shows}
+use Rattle.book.specs.Books.{BookForm, Shows}
 use Rattle.book.specs.Chains.{runs}
 use Rattle.book.proofs.Forms.{table-rows}
 use Rattle.demands.proofs.RowBack.{shown-row}
@@ -25,9 +25,8 @@ formed b m M f sh =
     record {
       few = omega arith;
       distinct = S .distinct;
-      rows = λ g l. subst RowForm (shown-row S g (omega arith)) (table-rows (tableOf b) (f .table) g (omega arith));
-      trustedIn = sh .trustedIn;
-      issuedIn = sh .issuedIn;
+      rows = λ g l. subst (RowForm g) (shown-row S g (omega arith)) (table-rows (b .table) (f .table) g (omega arith));
+      within = sh .within;
     }
 
 -- Every state that the machine reaches, by whatever records.

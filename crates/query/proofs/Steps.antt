@@ -8,23 +8,26 @@ use native.Mathlib.Omega.{arith}
 use lib.Dec.{T, eqb, eqb→eq, eqb-refl}
 use lib.ListN.{length, getD}
 use Rattle.sorts.specs.declared.Row.{Row}
-use Rattle.sorts.specs.Numbers.{conclusions}
+use Rattle.sorts.specs.declared.Status.{Status}
+use Rattle.sorts.specs.declared.Status.the-variants.{Trusted, Issued}
+use Rattle.sorts.specs.Numbers.{speakers, conclusions}
 use Rattle.sorts.specs.Blank.{blankCond}
 use Rattle.rows.specs.Written.{Grant}
 use Rattle.rows.specs.Numbering.{place, has}
 use Rattle.rows.specs.Form.{rowOf}
 use Rattle.rows.proofs.Place.{place-at, place-is, has-lt}
 use Rattle.rules.specs.Rules.{granted, condition, issueMark, firstValues, secondValues, resourceValues}
-use Rattle.rules.specs.RowForm.{RowForm, CondForm}
+use Rattle.rules.specs.inner.Ranges.{RowRange, CondRange}
+use Rattle.rules.proofs.Ranges.{row-range}
 use Rattle.rules.proofs.Lists.{each-all, all-each, some-join}
 use Rattle.rules.proofs.Bounds.{first-lt, second-lt, prin-lt, number-lt, granted-lt}
-use Rattle.book.specs.Machine.{State, Licence, hasLicence}
-use Rattle.book.specs.Closed.{grantAt, rowAt, Licensed, IsTrusted}
-use Rattle.query.specs.Figures.{Said, sameSaid, some, saidUnder, conditionUnder, conditions, issuedBy, allowed}
+use Rattle.book.specs.Machine.{State, stands}
+use Rattle.book.specs.Closed.{grantAt, rowAt, StandsAs}
+use Rattle.query.specs.Figures.{Said, sameSaid, some, saidUnder, conditionUnder, conditions, issuedBy, allowed, licencesIn, trustedIn}
 use Rattle.query.specs.Query.{InSaid, InTruth, sayings, Formed}
 use Rattle.query.proofs.Search.{Search, walk}
 use Rattle.query.proofs.Conditions.{every, every-out, every-in, some-where, some-of, some-left, some-right, Given}
-use Rattle.query.proofs.Conditions.{found-out, found-in, issued-out, issued-in, allowed-out, allowed-in, has-some, some-has, licence-some, some-licence}
+use Rattle.query.proofs.Conditions.{found-out, found-in, issued-out, issued-in, allowed-out, allowed-in, trusted-some, some-trusted, licence-some, some-licence}
 
 both-out : (a b : Bool) → T (a && b) → T a × T b
 both-out true true h = (tt, tt)
@@ -52,10 +55,10 @@ said-refl d = both-in (eqb (d .speaker) (d .speaker)) (eqb (d .what) (d .what)) 
 module _ (M : State) where
   -- what "p said e" follows from, and what e follows from, where a says what is answered yes
   abbrev pub saidStep : (Said → Bool) → Said → Bool
-  saidStep a d = some (every a) (conditions (M .N) (issuedBy (d .speaker) (M .L)) (d .what))
+  saidStep a d = some (every a) (conditions (M .N) (issuedBy (d .speaker) (licencesIn M)) (d .what))
 
   abbrev pub queryStep : (Said → Bool) → (ℕ → Bool) → ℕ → Bool
-  queryStep ok a e = some (every ok) (conditions (M .N) (M .T ++ allowed M a (M .L)) e)
+  queryStep ok a e = some (every ok) (conditions (M .N) (trustedIn M ++ allowed M a (licencesIn M)) e)
 
   -- what is answered of "p said e" with nothing under way, and of e with nothing under question
   unfoldable pub heard : Said → Bool
@@ -63,6 +66,9 @@ module _ (M : State) where
 
   unfoldable pub found : ℕ → Bool
   found e = walk eqb (queryStep heard) (suc conclusions) e []
+
+abbrev issued : ℕ → Status
+issued p = Issued (record { 0 = p })
 
 module _ (M : State) (F : Formed M) where
   -- a grant that has a number, by its number
@@ -72,79 +78,81 @@ module _ (M : State) (F : Formed M) where
   number-at : (g : ℕ) → g < length (M .N) → place (grantAt M g) (M .N) ≡ g
   number-at g l = place-is (grantAt M g) (M .N) (F .distinct) g l refl
 
-  licence-at : (l : Licence) → hasLicence l (M .L) ≡ true → Licensed M (l .issuer) (place (l .what) (M .N))
-  licence-at l h =
-      let n = F .issuedIn l h .0 in
-      (has-lt (l .what) (M .N) n, subst (λ (g : Grant). hasLicence (record { issuer = l .issuer; what = g }) (M .L) ≡ true) (sym (at-number (l .what) n)) h)
+  stands-at : (by : Status) (g : Grant) → stands M by g ≡ true → StandsAs M by (place g (M .N))
+  stands-at by g h =
+      let n = F .within by g h .0 in
+      (has-lt g (M .N) n, subst (λ (x : Grant). stands M by x ≡ true) (sym (at-number g n)) h)
 
   -- The condition of "p said e": a licence of p.
-  pub said-out : (a : Said → Bool) (d : Said) → T (saidStep M a d) → (g : ℕ) × Licensed M (d .speaker) g × Given (every a) (rowAt M g) (d .what)
+  pub said-out : (a : Said → Bool) (d : Said) → T (saidStep M a d) → (g : ℕ) × StandsAs M (issued (d .speaker)) g × Given (every a) (rowAt M g) (d .what)
   said-out a d h =
       let P : Grant → Type 0 = λ g. Given (every a) (rowOf (M .N) g) (d .what) in
-      let w = some-where (λ l. (l .issuer ≡ d .speaker) × P (l .what)) (M .L)
-      (issued-out P (d .speaker) (M .L) (found-out (every a) (M .N) (issuedBy (d .speaker) (M .L)) (d .what) h)) in
+      let w = some-where (λ l. (l .issuer ≡ d .speaker) × P (l .what)) (licencesIn M)
+      (issued-out P (d .speaker) (licencesIn M) (found-out (every a) (M .N) (issuedBy (d .speaker) (licencesIn M)) (d .what) h)) in
       let l = w .0 in
-      let k = some-licence l (M .L) (w .2) in (
+      let k = some-licence l (M .entries) (w .2) in (
         place (l .what) (M .N),
-        subst (λ (p : ℕ). Licensed M p (place (l .what) (M .N))) (w .1 .0) (licence-at l k),
-        subst P (sym (at-number (l .what) (F .issuedIn l k .0))) (w .1 .1),
+        subst (λ (p : ℕ). StandsAs M (issued p) (place (l .what) (M .N))) (w .1 .0) (stands-at (issued (l .issuer)) (l .what) k),
+        subst P (sym (at-number (l .what) (F .within (issued (l .issuer)) (l .what) k .0))) (w .1 .1),
       )
 
-  pub said-in : (a : Said → Bool) (d : Said) (g : ℕ) → Licensed M (d .speaker) g → Given (every a) (rowAt M g) (d .what) → T (saidStep M a d)
+  pub said-in : (a : Said → Bool) (d : Said) (g : ℕ) → StandsAs M (issued (d .speaker)) g → Given (every a) (rowAt M g) (d .what) → T (saidStep M a d)
   said-in a d g l w =
       let P : Grant → Type 0 = λ g. Given (every a) (rowOf (M .N) g) (d .what) in
-      found-in (every a) (M .N) (issuedBy (d .speaker) (M .L)) (d .what)
-      (issued-in P (d .speaker) (M .L)
-      (some-of (λ m. (m .issuer ≡ d .speaker) × P (m .what)) (M .L) (record { issuer = d .speaker; what = grantAt M g }) (refl, w)
-      (licence-some (record { issuer = d .speaker; what = grantAt M g }) (M .L) (l .1))))
+      found-in (every a) (M .N) (issuedBy (d .speaker) (licencesIn M)) (d .what)
+      (issued-in P (d .speaker) (licencesIn M)
+      (some-of (λ m. (m .issuer ≡ d .speaker) × P (m .what)) (licencesIn M) (record { issuer = d .speaker; what = grantAt M g }) (refl, w)
+      (licence-some (record { issuer = d .speaker; what = grantAt M g }) (M .entries) (l .1))))
 
   -- The condition of e: a trusted grant, or a licence of p whose right to issue it was answered yes.
   pub query-out : (ok : Said → Bool) (a : ℕ → Bool) (e : ℕ) → T (queryStep M ok a e) →
-      ((g : ℕ) × IsTrusted M g × Given (every ok) (rowAt M g) e) ⊎
-      ((g p : ℕ) × (p < 16) × Licensed M p g × T (a (issueMark p g)) × Given (every ok) (rowAt M g) e)
+      ((g : ℕ) × StandsAs M Trusted g × Given (every ok) (rowAt M g) e) ⊎
+      ((g p : ℕ) × (p < speakers) × StandsAs M (issued p) g × T (a (issueMark p g)) × Given (every ok) (rowAt M g) e)
   query-out ok a e h =
       let P : Grant → Type 0 = λ g. Given (every ok) (rowOf (M .N) g) e in
       ⊎-elim
       (λ u.
-      let w = some-where P (M .T) u in
-      let k = some-has (w .0) (M .T) (w .2) in
-      let n = F .trustedIn (w .0) k in
-      let i = sym (at-number (w .0) n) in
-      inl (place (w .0) (M .N), (has-lt (w .0) (M .N) n, subst (λ (g : Grant). has g (M .T) ≡ true) i k), subst P i (w .1)))
+      let w = some-where P (trustedIn M) u in
+      let k = some-trusted (w .0) (M .entries) (w .2) in
+      let i = sym (at-number (w .0) (F .within Trusted (w .0) k .0)) in
+      inl (place (w .0) (M .N), stands-at Trusted (w .0) k, subst P i (w .1)))
       (λ u.
-      let w = some-where (λ l. T (a (issueMark (l .issuer) (place (l .what) (M .N)))) × P (l .what)) (M .L) (allowed-out P M a (M .L) u) in
+      let w = some-where (λ l. T (a (issueMark (l .issuer) (place (l .what) (M .N)))) × P (l .what)) (licencesIn M) (allowed-out P M a (licencesIn M) u) in
       let l = w .0 in
-      let k = some-licence l (M .L) (w .2) in
-      let n = F .issuedIn l k in
-      inr (place (l .what) (M .N), l .issuer, n .1, licence-at l k, w .1 .0, subst P (sym (at-number (l .what) (n .0))) (w .1 .1)))
-      (some-join P (M .T) (allowed M a (M .L)) (found-out (every ok) (M .N) (M .T ++ allowed M a (M .L)) e h))
+      let k = some-licence l (M .entries) (w .2) in
+      let n = F .within (issued (l .issuer)) (l .what) k in
+      inr (place (l .what) (M .N), l .issuer, n .1, stands-at (issued (l .issuer)) (l .what) k, w .1 .0, subst P (sym (at-number (l .what) (n .0))) (w .1 .1)))
+      (some-join P (trustedIn M) (allowed M a (licencesIn M)) (found-out (every ok) (M .N) (trustedIn M ++ allowed M a (licencesIn M)) e h))
 
-  pub trust-in : (ok : Said → Bool) (a : ℕ → Bool) (e g : ℕ) → IsTrusted M g → Given (every ok) (rowAt M g) e → T (queryStep M ok a e)
+  pub trust-in : (ok : Said → Bool) (a : ℕ → Bool) (e g : ℕ) → StandsAs M Trusted g → Given (every ok) (rowAt M g) e → T (queryStep M ok a e)
   trust-in ok a e g t w =
       let P : Grant → Type 0 = λ g. Given (every ok) (rowOf (M .N) g) e in
-      found-in (every ok) (M .N) (M .T ++ allowed M a (M .L)) e
-      (some-left P (M .T) (allowed M a (M .L)) (some-of P (M .T) (grantAt M g) w (has-some (grantAt M g) (M .T) (t .1))))
+      found-in (every ok) (M .N) (trustedIn M ++ allowed M a (licencesIn M)) e
+      (some-left P (trustedIn M) (allowed M a (licencesIn M)) (some-of P (trustedIn M) (grantAt M g) w (trusted-some (grantAt M g) (M .entries) (t .1))))
 
-  pub authority-in : (ok : Said → Bool) (a : ℕ → Bool) (e g p : ℕ) → Licensed M p g → T (a (issueMark p g)) → Given (every ok) (rowAt M g) e → T (queryStep M ok a e)
+  pub authority-in : (ok : Said → Bool) (a : ℕ → Bool) (e g p : ℕ) → StandsAs M (issued p) g → T (a (issueMark p g)) → Given (every ok) (rowAt M g) e → T (queryStep M ok a e)
   authority-in ok a e g p l t w =
       let P : Grant → Type 0 = λ g. Given (every ok) (rowOf (M .N) g) e in
-      found-in (every ok) (M .N) (M .T ++ allowed M a (M .L)) e
-      (some-right P (M .T) (allowed M a (M .L)) (allowed-in P M a (M .L)
-      (some-of (λ m. T (a (issueMark (m .issuer) (place (m .what) (M .N)))) × P (m .what)) (M .L) (record { issuer = p; what = grantAt M g })
-      (subst (λ (k : ℕ). T (a (issueMark p k))) (sym (number-at g (l .0))) t, w) (licence-some (record { issuer = p; what = grantAt M g }) (M .L) (l .1)))))
+      found-in (every ok) (M .N) (trustedIn M ++ allowed M a (licencesIn M)) e
+      (some-right P (trustedIn M) (allowed M a (licencesIn M)) (allowed-in P M a (licencesIn M)
+      (some-of (λ m. T (a (issueMark (m .issuer) (place (m .what) (M .N)))) × P (m .what)) (licencesIn M) (record { issuer = p; what = grantAt M g })
+      (subst (λ (k : ℕ). T (a (issueMark p k))) (sym (number-at g (l .0))) t, w) (licence-some (record { issuer = p; what = grantAt M g }) (M .entries) (l .1)))))
 
   -- a row's conditions and conclusion are in range
 
-  module _ (r : Row) (f : RowForm r) (x y z : ℕ) (hx : x < firstValues (r .prins)) (hy : y < secondValues (r .prins)) (hz : z < resourceValues (r .res)) where
+  pub ranged : (g : ℕ) → g < length (M .N) → RowRange (rowAt M g)
+  ranged g l = let n = F .few in row-range g (rowAt M g) (omega arith) (F .rows g l)
+
+  module _ (r : Row) (f : RowRange r) (x y z : ℕ) (hx : x < firstValues (r .prins)) (hy : y < secondValues (r .prins)) (hz : z < resourceValues (r .res)) where
     pub granted-in : granted r x y z < conclusions
     granted-in = granted-lt r x y z f (omega (arith, first-lt (r .prins))) (omega (arith, second-lt (r .prins))) hz
 
     pub said-under : (i : ℕ) → i < r .count → InSaid (saidUnder (getD (r .conds) i blankCond) x y z)
     said-under i l =
         let few = f .few in
-        let c : CondForm (r .res) (getD (r .conds) i blankCond) = f .conds i (omega arith) in
-        let lx : x < 16 = omega (arith, first-lt (r .prins)) in
-        let ly : y < 16 = omega (arith, second-lt (r .prins)) in
+        let c : CondRange (r .res) (getD (r .conds) i blankCond) = f .conds i (omega arith) in
+        let lx : x < speakers = omega (arith, first-lt (r .prins)) in
+        let ly : y < speakers = omega (arith, second-lt (r .prins)) in
         (prin-lt (getD (r .conds) i blankCond .who) x y (c .who) lx ly, number-lt (r .res) (getD (r .conds) i blankCond .what) x y z (c .what) lx ly hz)
 
     -- every condition, by its place
@@ -161,7 +169,7 @@ module _ (M : State) (F : Formed M) where
   given-mono : (a b : Said → Bool) → ((d : Said) → InSaid d → T (a d) → T (b d)) → (g e : ℕ) → g < length (M .N) → Given (every a) (rowAt M g) e → Given (every b) (rowAt M g) e
   given-mono a b f g e l w =
       let row = rowAt M g in
-      let form = F .rows g l in
+      let form = ranged g l in
       record {
         x = w .x;
         y = w .y;
@@ -192,7 +200,7 @@ module _ (M : State) (F : Formed M) where
 
   -- the number of "p said e" among the sayings
   abbrev pub sayingNumber : Said → ℕ
-  sayingNumber d = 2304 * d .speaker + d .what
+  sayingNumber d = conclusions * d .speaker + d .what
 
   pub said-search : Search sameSaid InSaid sayingNumber sayings (saidStep M)
   said-search = record {

@@ -5,18 +5,18 @@ use mathlib.Core.Bool.{Bool, false}
 use mathlib.Core.List.{[], _++_}
 use Rattle.sorts.specs.Numbers.{conclusions}
 use Rattle.book.specs.Machine.{State}
-use Rattle.query.specs.Figures.{Said, some, holds2, conditions, issuedBy, allowed}
+use Rattle.query.specs.Figures.{Said, some, holds2, conditions, issuedBy, allowed, licencesIn, trustedIn}
 use Rattle.query.specs.Query.{InTruth, InSaid, sayings, saidWithin, queryWithin, implied}
 
 module _ (M : State) (spent : Bool) where
   unfoldable pub saidByBudget : ℕ → Said → Bool
   saidByBudget zero d = spent
-  saidByBudget (suc k) d = some (λ d′. holds2 (λ dᵢ S. saidByBudget k dᵢ) d′ []) (conditions (M .N) (issuedBy (d .speaker) (M .L)) (d .what))
+  saidByBudget (suc k) d = some (λ d′. holds2 (λ dᵢ S. saidByBudget k dᵢ) d′ []) (conditions (M .N) (issuedBy (d .speaker) (licencesIn M)) (d .what))
 
   unfoldable pub queryByBudget : ℕ → ℕ → Bool
   queryByBudget zero e = spent
   queryByBudget (suc k) e =
-      some (λ d. holds2 (λ dᵢ S. saidByBudget (suc sayings) dᵢ) d []) (conditions (M .N) (M .T ++ allowed M (λ e′. queryByBudget k e′) (M .L)) e)
+      some (λ d. holds2 (λ dᵢ S. saidByBudget (suc sayings) dᵢ) d []) (conditions (M .N) (trustedIn M ++ allowed M (λ e′. queryByBudget k e′) (licencesIn M)) e)
 
 -- Where a question out of budget is answered no, the answers are the same as with the lists, on every budget. So the lists are there
 -- to end the recursion, and not for the answers; without them it does matter what a question out of budget is answered.

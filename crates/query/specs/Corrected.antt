@@ -7,8 +7,7 @@ use mathlib.Core.Logic.{_↔_}
 use Rattle.sorts.specs.Numbers.{saidMark, conclusions}
 use Rattle.rules.specs.Standing.{All}
 use Rattle.book.specs.Machine.{State}
-use Rattle.book.specs.Closed.{ClosedSet}
-use Rattle.demands.specs.Demands.{Stands, Lacking}
+use Rattle.book.specs.Closed.{ClosedSet, Stands, Lacking}
 use Rattle.query.specs.Figures.{Said, Condition, holds2}
 use Rattle.query.specs.Query.{InTruth, InSaid, Single, sayings, saidWithin, queryWithin, implied, holds}
 

@@ -3,44 +3,24 @@ use Prim.Native.Nat.{ℕ, suc}
 use mathlib.Core.Path.{_≡_}
 use mathlib.Core.Bool.{Bool, true, false}
 use mathlib.Core.List.{List, [], _∷_, _++_, map}
-use Rattle.sorts.specs.Numbers.{numberOf}
 use Rattle.rows.specs.Written.{Grant, Concl, perm, issue, issueAny}
-use Rattle.rows.specs.Form.{conclOf}
-use Rattle.reader.specs.Records.{Record, TG, LI, WD}
-use Rattle.reader.specs.Writing.{writtenRecord}
-use Rattle.worked.specs.Worked.{Entry, trust, licence, withdraw, Answer, permitted, not-permitted, marks, change, Example}
+use Rattle.rules.specs.Standing.{All}
+use Rattle.book.specs.Machine.{State, start}
+use Rattle.book.specs.Closed.{Stands}
+use Rattle.worked.specs.Worked.{trust, licence, machine, Accepted, numberIn, Answer, permitted, not-permitted, marks, net, Example}
 use Rattle.worked.specs.Worked.{smart, good, trusted, plain, when, when2, for-grants, P7, P9, table}
-use Rattle.book.specs.Machine.{State, Verdict, changes, start, step}
-use Rattle.book.specs.Chains.{runs}
-use Rattle.demands.specs.Demands.{Stands}
 use Rattle.query.specs.Figures.{Said}
 use Rattle.query.specs.Query.{saidWithin, queryWithin}
 use Rattle.query.specs.ByBudget.{saidByBudget}
 use Rattle.query.specs.Executions.{asWritten, partsTurned, handedBack, handedOn, impliedTold}
 
-abbrev pub recordOf : Entry → Record
-recordOf (trust g) = TG g
-recordOf (licence q g) = LI q g
-recordOf (withdraw q g) = WD q g
-
-unfoldable pub recordsOf : Example → List (List ℕ)
-recordsOf x = map (λ e. writtenRecord (recordOf e)) (x .entries)
-
+-- The machine after an example's records.
 abbrev pub machineOf : Example → State
-machineOf x = runs start (recordsOf x)
-
--- The number of a written conclusion.
-abbrev pub numberIn : State → Concl → ℕ
-numberIn M c = numberOf (conclOf (M .N) c)
+machineOf x = machine (x .entries)
 
 -- Trusted(2), which P9 and its like ask for.
 abbrev pub trusted2 : Example → ℕ
 trusted2 x = numberIn (machineOf x) (trusted 2)
-
--- What the machine says of each record.
-unfoldable pub verdicts : State → List (List ℕ) → List Verdict
-verdicts M [] = []
-verdicts M (s ∷ ss) = step M s .says ∷ verdicts (step M s .next) ss
 
 -- A test at each conclusion that an example's line says is permitted, or not; and what the line says of it.
 unfoldable pub tested : (Concl → Bool) → List Answer → List Bool
@@ -48,18 +28,18 @@ tested f [] = []
 tested f (permitted c ∷ l) = f c ∷ tested f l
 tested f (not-permitted c ∷ l) = f c ∷ tested f l
 tested f (marks n ∷ l) = tested f l
-tested f (change es g n ∷ l) = tested f l
+tested f (net es z ∷ l) = tested f l
 
 unfoldable pub lineSays : List Answer → List Bool
 lineSays [] = []
 lineSays (permitted c ∷ l) = true ∷ lineSays l
 lineSays (not-permitted c ∷ l) = false ∷ lineSays l
 lineSays (marks n ∷ l) = lineSays l
-lineSays (change es g n ∷ l) = lineSays l
+lineSays (net es z ∷ l) = lineSays l
 
 -- Every record of the examples is accepted, and a query over states answers each conclusion as the line says.
 pub record Answered (query : State → ℕ → Bool) (examples : List Example) : Type 0 where
-  pub accepted : map (λ x. verdicts start (recordsOf x)) examples ≡ map (λ x. map (λ e. changes) (x .entries)) examples
+  pub accepted : All (λ x. Accepted start (x .entries)) examples
   pub answers : map (λ x. tested (λ c. query (machineOf x) (numberIn (machineOf x) c)) (x .answers)) examples ≡ map (λ x. lineSays (x .answers)) examples
 
 -- Document 000's example 3.4: "Alice issues the grant "if I say Bob is smart, then he is" and Alice is permitted to issue this

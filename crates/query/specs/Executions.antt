@@ -15,8 +15,8 @@ use Rattle.rows.specs.Written.{Grant}
 use Rattle.rows.specs.Numbering.{place}
 use Rattle.rules.specs.Rules.{issueMark}
 use Rattle.rules.specs.Standing.{Some}
-use Rattle.book.specs.Machine.{State, Licence}
-use Rattle.query.specs.Figures.{Said, sameSaid, Condition, some, conditions, issuedBy}
+use Rattle.book.specs.Machine.{State}
+use Rattle.query.specs.Figures.{Said, sameSaid, Condition, some, conditions, issuedBy, Licence, licencesIn, trustedIn}
 use Rattle.query.specs.Query.{sayings}
 
 -- The order in which the parts of a condition, the conditions of D and the licences are gone through.
@@ -96,7 +96,7 @@ module _ (pass : Passing) (order : Order) (M : State) where
   unfoldable pub saidTold : ℕ → Said → Asking Bool
   saidTold zero d w = tell false w
   saidTold (suc k) d w =
-      let D = order .tried (conditions (M .N) (issuedBy (d .speaker) (M .L)) (d .what)) in
+      let D = order .tried (conditions (M .N) (issuedBy (d .speaker) (licencesIn M)) (d .what)) in
       let found = someTold pass (λ d′ w′. everyTold pass (λ dᵢ w″. saidTold k dᵢ w″) (order .parts d′) w′) D (record { E = w .E; S = d ∷ w .S }) in
       cond (some (sameSaid d) (w .S)) (tell false w) found
 
@@ -113,8 +113,8 @@ module _ (pass : Passing) (order : Order) (M : State) where
 
   unfoldable pub authTold : (ℕ → Asking Bool) → ℕ → Asking (List Condition)
   authTold query e w =
-      let r = allowedTold query (order .licences (M .L)) (record { E = e ∷ w .E; S = w .S }) in
-      let D : Told (List Condition) = record { answer = conditions (M .N) (M .T ++ r .answer) e; asked = r .asked } in
+      let r = allowedTold query (order .licences (licencesIn M)) (record { E = e ∷ w .E; S = w .S }) in
+      let D : Told (List Condition) = record { answer = conditions (M .N) (trustedIn M ++ r .answer) e; asked = r .asked } in
       cond (some (eqb e) (w .E)) (tell [] w) D
 
   -- Figure 4

@@ -1,5 +1,5 @@
 -- Document 000, section 3.3, the corrected query: figures 4 to 6, Query2(e, L, R, E), Auth2(e, L, R, E) and Holds2(d, L, S), over
--- the plain machine. L is its licences, R its trusted grants T, and a grant's place in N is its number. Each figure stands here
+-- the plain machine. L is its licences, R its trusted grants, and a grant's place in N is its number. Each figure stands here
 -- once. Where a figure calls a figure the call is a parameter: `query` is Query2(.., L, R, ..), and `said` is Holds2(.., L, ..) of
 -- one Said. What functions follow the figures is said in Query.
 use Prim.Native.Nat.{ℕ}
@@ -9,6 +9,8 @@ use lib.Dec.{eqb}
 use lib.ListN.{getD}
 use Rattle.sorts.specs.declared.Cond.{Cond}
 use Rattle.sorts.specs.declared.Row.{Row}
+use Rattle.sorts.specs.declared.Status.{Status}
+use Rattle.sorts.specs.declared.Status.the-variants.{Trusted, Issued}
 use Rattle.sorts.specs.Numbers.{numberOf}
 use Rattle.sorts.specs.Blank.{blankCond}
 use Rattle.rows.specs.Written.{Grant}
@@ -16,7 +18,35 @@ use Rattle.rows.specs.Numbering.{place}
 use Rattle.rows.specs.Form.{rowOf}
 use Rattle.rules.specs.Rules.{prinUnder, conclUnder, granted, issueMark, firstValues, secondValues, resourceValues}
 use Rattle.rules.specs.Standing.{each}
-use Rattle.book.specs.Machine.{State, Licence}
+use Rattle.book.specs.Machine.{State, Entry}
+
+-- A license (p, g) of document 000.
+pub record Licence : Type 0 where
+  pub issuer : ℕ
+  pub what : Grant
+
+-- The licences and the trusted grants of the machine, L and R.
+abbrev pub licenceOf : Status → Grant → List Licence
+licenceOf Trusted g = []
+licenceOf (Issued p) g = record { issuer = p .0; what = g } ∷ []
+
+abbrev pub trustedOf : Status → Grant → List Grant
+trustedOf Trusted g = g ∷ []
+trustedOf (Issued p) g = []
+
+unfoldable pub licences : List Entry → List Licence
+licences [] = []
+licences (x ∷ E) = licenceOf (x .by) (x .what) ++ licences E
+
+unfoldable pub trusts : List Entry → List Grant
+trusts [] = []
+trusts (x ∷ E) = trustedOf (x .by) (x .what) ++ trusts E
+
+abbrev pub licencesIn : State → List Licence
+licencesIn M = licences (M .entries)
+
+abbrev pub trustedIn : State → List Grant
+trustedIn M = trusts (M .entries)
 
 -- A closed conclusion e is its number. "Said(p, e)":
 pub record Said : Type 0 where
@@ -71,7 +101,7 @@ module _ (M : State) where
   unfoldable pub said2 : (Said → List Said → Bool) → Said → List Said → Bool
   said2 said d S =
       let S′ = d ∷ S in
-      let D = conditions (M .N) (issuedBy (d .speaker) (M .L)) (d .what) in
+      let D = conditions (M .N) (issuedBy (d .speaker) (licencesIn M)) (d .what) in
       let held = some (λ d′. holds2 said d′ S′) D in
       cond (some (sameSaid d) S) false held
 
@@ -84,7 +114,7 @@ module _ (M : State) where
   unfoldable pub auth2 : (ℕ → List ℕ → Bool) → ℕ → List ℕ → List Condition
   auth2 query e E =
       let E′ = e ∷ E in
-      let R′ = M .T ++ allowed (λ e′. query e′ E′) (M .L) in
+      let R′ = trustedIn M ++ allowed (λ e′. query e′ E′) (licencesIn M) in
       let D = conditions (M .N) R′ e in
       cond (some (eqb e) E) [] D
 

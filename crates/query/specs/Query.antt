@@ -5,34 +5,35 @@ use mathlib.Core.Path.{_≡_}
 use mathlib.Core.Bool.{Bool, true}
 use mathlib.Core.List.{List, [], _∷_}
 use lib.ListN.{length, getD}
-use Rattle.sorts.specs.Numbers.{conclusions}
+use Rattle.sorts.specs.declared.Status.{Status}
+use Rattle.sorts.specs.Numbers.{speakers, grants, conclusions}
+use Rattle.sorts.specs.RowForm.{RowForm}
+use Rattle.sorts.specs.Flags.{StatusForm}
 use Rattle.rows.specs.Written.{Grant}
 use Rattle.rows.specs.Numbering.{has}
 use Rattle.rows.specs.Form.{noGrant}
-use Rattle.rules.specs.RowForm.{RowForm}
 use Rattle.rules.specs.Standing.{All, Some}
-use Rattle.book.specs.Machine.{State, Licence, hasLicence}
+use Rattle.book.specs.Machine.{State, stands}
 use Rattle.book.specs.Closed.{rowAt}
 use Rattle.query.specs.Figures.{Said, Condition, said2, holds2, query2}
 
 -- What the theorems ask of a state of the plain machine: at most 64 grants are numbered, each once, their rows are in form, and
 -- what stands has a number and, for a licence, one of the 16 as issuer. Every state that the machine reaches is so.
 pub record Formed (M : State) : Type 0 where
-  pub few : length (M .N) ≤ 64
+  pub few : length (M .N) ≤ grants
   pub distinct : (i j : ℕ) → i < length (M .N) → j < length (M .N) → getD (M .N) i noGrant ≡ getD (M .N) j noGrant → i ≡ j
-  pub rows : (g : ℕ) → g < length (M .N) → RowForm (rowAt M g)
-  pub trustedIn : (g : Grant) → has g (M .T) ≡ true → has g (M .N) ≡ true
-  pub issuedIn : (l : Licence) → hasLicence l (M .L) ≡ true → (has (l .what) (M .N) ≡ true) × (l .issuer < 16)
+  pub rows : (g : ℕ) → g < length (M .N) → RowForm g (rowAt M g)
+  pub within : (by : Status) (g : Grant) → stands M by g ≡ true → (has g (M .N) ≡ true) × StatusForm by
 
 -- The statements that there are: e of 2,304 conclusions, and "p said e" of 16 principals.
 abbrev pub InTruth : ℕ → Type 0
 InTruth e = e < conclusions
 
 abbrev pub InSaid : Said → Type 0
-InSaid d = (d .speaker < 16) × (d .what < conclusions)
+InSaid d = (d .speaker < speakers) × (d .what < conclusions)
 
 abbrev pub sayings : ℕ
-sayings = 16 * conclusions
+sayings = speakers * conclusions
 
 -- Nothing stands on the list twice.
 abbrev pub Single : {A : Type 0} → List A → Type 0

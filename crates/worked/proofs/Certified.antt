@@ -1,6 +1,6 @@
 -- What stands, given by a short list of its statements, each in front of those that it follows from: computed tests, and what
 -- they show.
-use mathlib.Core.Path.{_≡_, refl, sym, subst, ap, _∙_}
+use mathlib.Core.Path.{_≡_, sym, subst, ap, _∙_}
 use mathlib.Core.Bool.{Bool, true, false, not}
 use mathlib.Core.List.{List, [], _∷_}
 use mathlib.Core.Logic.{_⊎_, inl, inr, ⊎-elim}
@@ -10,14 +10,18 @@ use native.Mathlib.Omega.{arith}
 use lib.Dec.{T, eqb, ltb, eqb→eq, eqb-refl, ltb→lt, T-not}
 use lib.ListN.{length, getD, set, length-set}
 use lib.Seq.{getD-set-same}
-use Rattle.sorts.specs.declared.Row.{Row}
-use Rattle.rules.specs.Rules.{Closed}
-use Rattle.rules.specs.Standing.{All, Some, Rule, ClosedRules, In, Bits, Within, saturation, ground, blank, standing}
+use Rattle.sorts.specs.Numbers.{allMarks}
+use Rattle.rules.specs.Standing.{All, Some, Rule, ClosedRules, In, Bits, ground, blank}
 use Rattle.rules.proofs.Lists.{met-map}
-use Rattle.rules.proofs.Saturation.{in-set, in-set-cases, bits-set, same-marks, sat-length, sat-bits, sat-least, sat-closed}
+use Rattle.rules.proofs.Saturation.{in-set, in-set-cases, bits-set, same-marks}
 use Rattle.rules.proofs.Ground.{closed-ground}
 use Rattle.rules.proofs.Standing.{blank-length, blank-bits, blank-none}
-use Rattle.worked.specs.Worked.{ones}
+use Rattle.book.specs.Machine.{State}
+use Rattle.book.specs.Closed.{ClosedSet, Stands, Lacking}
+use Rattle.marks.specs.Counts.{ones}
+use Rattle.demands.proofs.Balance.{ones-none}
+use Rattle.worked.specs.Worked.{MarksOf}
+use Rattle.worked.proofs.Listed.{rowsOf, flagsOf, closed-same}
 
 -- Tests joined.
 
@@ -81,11 +85,6 @@ abbrev pub metb : List (List ℕ) → List ℕ → Bool
 metb [] ns = true
 metb (ks ∷ kss) ns = both (anyb ks ns) (metb kss ns)
 
--- each rule gives a statement
-abbrev pub withinb : List Rule → Bool
-withinb [] = true
-withinb (r ∷ rs) = both (ltb (r .gives) 39168) (withinb rs)
-
 -- what a rule gives is listed where its needs are
 abbrev pub closedb : List Rule → List ℕ → Bool
 closedb [] ns = true
@@ -99,10 +98,10 @@ givenb (r ∷ rs) ns n = let met = metb (r .needs) ns in let later = givenb rs n
 -- each follows from those behind it in the list, is none of them, and is a statement
 abbrev pub orderb : List Rule → List ℕ → Bool
 orderb rs [] = true
-orderb rs (n ∷ ns) = both (givenb rs ns n) (both (not (memb n ns)) (both (ltb n 39168) (orderb rs ns)))
+orderb rs (n ∷ ns) = both (givenb rs ns n) (both (not (memb n ns)) (both (ltb n allMarks) (orderb rs ns)))
 
 abbrev pub test : List Rule → List ℕ → Bool
-test rs ns = both (withinb rs) (both (closedb rs ns) (orderb rs ns))
+test rs ns = both (closedb rs ns) (orderb rs ns)
 
 -- What each test shows.
 
@@ -122,10 +121,6 @@ met-of (ks ∷ kss) ns t = (any-of ks ns (left (anyb ks ns) (metb kss ns) t), me
 of-met : (kss : List (List ℕ)) (ns : List ℕ) → All (Some (Listed ns)) kss → T (metb kss ns)
 of-met [] ns h = tt
 of-met (ks ∷ kss) ns h = join (anyb ks ns) (metb kss ns) (of-any ks ns (h .0)) (of-met kss ns (h .1))
-
-within-of : (rs : List Rule) → T (withinb rs) → Within 39168 rs
-within-of [] t = tt
-within-of (r ∷ rs) t = (ltb→lt (r .gives) 39168 (left (ltb (r .gives) 39168) (withinb rs) t), within-of rs (right (ltb (r .gives) 39168) (withinb rs) t))
 
 closed-of : (rs : List Rule) (ns : List ℕ) → T (closedb rs ns) → ClosedRules rs (Listed ns)
 closed-of [] ns t = tt
@@ -147,20 +142,20 @@ given-of S (r ∷ rs) ns n c f t =
 record First (rs : List Rule) (n : ℕ) (ns : List ℕ) : Type 0 where
   given : T (givenb rs ns n)
   new : Listed ns n → ⊥
-  small : n < 39168
+  small : n < allMarks
   rest : T (orderb rs ns)
 
 first : (rs : List Rule) (n : ℕ) (ns : List ℕ) → T (orderb rs (n ∷ ns)) → First rs n ns
 first rs n ns t =
-    let c = both (ltb n 39168) (orderb rs ns) in
+    let c = both (ltb n allMarks) (orderb rs ns) in
     let b = both (not (memb n ns)) c in
     let u : T b = right (givenb rs ns n) b t in
     let v : T c = right (not (memb n ns)) c u in
     record {
       given = left (givenb rs ns n) b t;
       new = T-not (memb n ns) (left (not (memb n ns)) c u);
-      small = ltb→lt n 39168 (left (ltb n 39168) (orderb rs ns) v);
-      rest = right (ltb n 39168) (orderb rs ns) v;
+      small = ltb→lt n allMarks (left (ltb n allMarks) (orderb rs ns) v);
+      rest = right (ltb n allMarks) (orderb rs ns) v;
     }
 
 order-of : (S : ℕ → Type 0) (rs : List Rule) (ns : List ℕ) → ClosedRules rs S → T (orderb rs ns) → (n : ℕ) → Listed ns n → S n
@@ -176,16 +171,13 @@ abbrev pub marksOf : List ℕ → List ℕ
 marksOf [] = blank
 marksOf (n ∷ ns) = set (marksOf ns) n 1
 
-pub marks-length : (ns : List ℕ) → length (marksOf ns) ≡ 39168
+pub marks-length : (ns : List ℕ) → length (marksOf ns) ≡ allMarks
 marks-length [] = blank-length
 marks-length (n ∷ ns) = length-set (marksOf ns) n 1 ∙ marks-length ns
 
 pub marks-bits : (ns : List ℕ) → Bits (marksOf ns)
 marks-bits [] k = blank-bits k
 marks-bits (n ∷ ns) k = bits-set (marksOf ns) n k (marks-bits ns k)
-
-pub blank-zero : (n : ℕ) → getD blank n 0 ≡ 0
-blank-zero n = omega (arith, blank-bits n, blank-none n)
 
 pub marks-listed : (ns : List ℕ) (n : ℕ) → In (marksOf ns) n → Listed ns n
 marks-listed [] n h = absurd (blank-none n h)
@@ -218,67 +210,49 @@ listed-marks rs (m ∷ ns) t n h =
 -- As many marks as the list is long.
 
 ones-set : (m : List ℕ) (i : ℕ) → i < length m → getD m i 0 ≡ 0 → ones (set m i 1) ≡ suc (ones m)
+unfolding ones
 ones-set [] i l e = absurd (not-suc-le-zero l)
-ones-set (zero ∷ m) zero l e = refl
-ones-set (suc b ∷ m) zero l e = omega arith
-ones-set (zero ∷ m) (suc i) l e = ones-set m i (le-of-suc-le-suc l) e
-ones-set (suc b ∷ m) (suc i) l e = ap suc (ones-set m i (le-of-suc-le-suc l) e)
+ones-set (b ∷ m) zero l e = rw e (omega arith)
+ones-set (b ∷ m) (suc i) l e = omega (arith, ones-set m i (le-of-suc-le-suc l) e)
 
-ones-none : (m : List ℕ) → ((n : ℕ) → getD m n 0 ≡ 0) → ones m ≡ 0
-ones-none [] f = refl
-ones-none (zero ∷ m) f = ones-none m (λ n. f (suc n))
-ones-none (suc b ∷ m) f = omega (arith, f 0)
+ones-blank : ones blank ≡ 0
+unfolding blank
+ones-blank = ones-none allMarks
 
 ones-marks : (rs : List Rule) (ns : List ℕ) → T (orderb rs ns) → ones (marksOf ns) ≡ length ns
-ones-marks rs [] t = ones-none blank blank-zero
+ones-marks rs [] t = ones-blank
 ones-marks rs (n ∷ ns) t =
     let p = added rs n ns t in
     ones-set (marksOf ns) n (p .0 .small) (p .0 .unset) ∙ ap suc (ones-marks rs ns (p .1))
 
--- Where the rules of rows and flags pass the test, the listed statements are those that stand.
-module _ (rows : List Row) (flags ns : List ℕ) (t : T (test (ground rows flags) ns)) where
-  rest : T (both (closedb (ground rows flags) ns) (orderb (ground rows flags) ns))
-  rest = right (withinb (ground rows flags)) (both (closedb (ground rows flags) ns) (orderb (ground rows flags) ns)) t
+-- Where the rules of a state pass the test, the listed statements are those that stand.
+abbrev pub certified : State → List ℕ → Bool
+certified M ns = test (ground (rowsOf M) (flagsOf M)) ns
 
-  pub order : T (orderb (ground rows flags) ns)
-  order = right (closedb (ground rows flags) ns) (orderb (ground rows flags) ns) rest
+module _ (M : State) (ns : List ℕ) (t : T (certified M ns)) where
+  abbrev rs : List Rule
+  rs = ground (rowsOf M) (flagsOf M)
 
-  within : Within (length blank) (ground rows flags)
-  within =
-      subst (λ (n : ℕ). Within n (ground rows flags)) (sym blank-length)
-      (within-of (ground rows flags) (left (withinb (ground rows flags)) (both (closedb (ground rows flags) ns) (orderb (ground rows flags) ns)) t))
+  order : T (orderb rs ns)
+  order = right (closedb rs ns) (orderb rs ns) t
 
-  least : (n : ℕ) → In (standing rows flags) n → Listed ns n
-  unfolding standing
-  least n h =
-      sat-least (ground rows flags) blank (Listed ns)
-      (closed-of (ground rows flags) ns (left (closedb (ground rows flags) ns) (orderb (ground rows flags) ns) rest))
-      (λ k e. absurd (blank-none k e)) n h
-
-  closed-rules : ClosedRules (ground rows flags) (In (standing rows flags))
-  unfolding standing
-  closed-rules = sat-closed (ground rows flags) blank blank-bits within
+  closed : ClosedSet M (Listed ns)
+  closed = closed-same M (Listed ns) .0 (closed-ground (rowsOf M) (flagsOf M) (Listed ns) .1 (closed-of rs ns (left (closedb rs ns) (orderb rs ns) t)))
 
   -- a listed statement is in every closed set
-  pub present : (n : ℕ) → Listed ns n → (S : ℕ → Type 0) → Closed rows flags S → S n
-  present n h S c = order-of S (ground rows flags) ns (closed-ground rows flags S .0 c) order n h
+  pub present : (n : ℕ) → Listed ns n → Stands M n
+  present n h S c = order-of S rs ns (closed-ground (rowsOf M) (flagsOf M) S .0 (closed-same M S .1 c)) order n h
 
-  -- what stands is closed, and has no statement that is not listed
-  pub closed : Closed rows flags (In (standing rows flags))
-  closed = closed-ground rows flags (In (standing rows flags)) .1 closed-rules
+  -- the listed statements are a closed set, which lacks the others
+  pub missing : (n : ℕ) → T (not (memb n ns)) → Lacking M n
+  missing n u = (Listed ns, closed, T-not (memb n ns) u)
 
-  pub absent : (n : ℕ) → T (not (memb n ns)) → In (standing rows flags) n → ⊥
-  absent n u h = T-not (memb n ns) u (least n h)
+  -- so its marks are those of the listed statements
+  marks-are : (m : List ℕ) → MarksOf M m → m ≡ marksOf ns
+  marks-are m k =
+      same-marks m (marksOf ns) (k .size ∙ sym (marks-length ns)) (k .bits) (marks-bits ns)
+      (λ n h. listed-marks rs ns order n (k .stand n .0 h (Listed ns) closed))
+      (λ n h. k .stand n .1 (present n (marks-listed ns n h)))
 
-  pub whole : standing rows flags ≡ marksOf ns
-  unfolding standing
-  whole =
-      same-marks (saturation (ground rows flags) blank) (marksOf ns)
-      (sat-length (ground rows flags) blank ∙ blank-length ∙ sym (marks-length ns))
-      (sat-bits (ground rows flags) blank blank-bits)
-      (marks-bits ns)
-      (λ n h. listed-marks (ground rows flags) ns order n (least n h))
-      (λ n h. order-of (In (saturation (ground rows flags) blank)) (ground rows flags) ns closed-rules order n (marks-listed ns n h))
-
-  pub counted : ones (standing rows flags) ≡ length ns
-  counted = ap ones whole ∙ ones-marks (ground rows flags) ns order
+  pub counted : (m : List ℕ) → MarksOf M m → ones m ≡ length ns
+  counted m k = ap ones (marks-are m k) ∙ ones-marks rs ns order

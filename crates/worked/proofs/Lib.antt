@@ -1,3 +1,5 @@
+pub mod Computing
+pub mod Listed
 pub mod Certified
-pub mod Change
+pub mod Marks
 pub mod Worked

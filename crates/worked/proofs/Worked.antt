@@ -1,83 +1,114 @@
 -- The table of worked examples, proved: a list of the standing statements for each example, and one test over all of them.
-use mathlib.Core.Path.{_∙_}
+use mathlib.Core.Path.{_≡_, refl, ap, _∙_}
 use mathlib.Core.Bool.{Bool, true, false, not}
 use mathlib.Core.List.{List, [], _∷_}
 use Prim.Native.Nat.{ℕ, zero, suc}
 use lib.Dec.{T, eqb, eqb→eq}
+use lib.IntN.{ℤ, pos, negsuc, _-ℤ_}
 use lib.ListN.{length}
-use Rattle.rows.specs.Written.{written, writtenConds, writtenConcl, writtenRight, sameBytes, same}
-use Rattle.rows.specs.Numbering.{place, has, add, number, numberConds, numberConcl, numberRight}
-use Rattle.rows.specs.Form.{condsOf, rowOf}
-use Rattle.rules.specs.Rules.{resUnder, conclUnder, granted, condition}
-use Rattle.rules.specs.Standing.{needsOf, fired, at, atXY, atX, ofRow, ground, standing}
-use Rattle.worked.specs.Worked.{Entry, Answer, permitted, not-permitted, marks, change, Example, Holds, All, Right}
-use Rattle.worked.specs.Worked.{without, step, from, after, rowsOf, withTrusts, withLicences, flagsOf, markIn}
-use Rattle.worked.specs.Worked.{P1, P2, P3, P4, P5, P6, P6-added, P7, P8, P9, P9-withdrawn, P10, table}
-use Rattle.worked.proofs.Certified.{both, left, right, memb, test, present, closed, absent, counted}
-use Rattle.worked.proofs.Change.{fresh, gains}
+use Rattle.reader.specs.Records.{Record}
+use Rattle.exact.specs.Writing.{writtenRecord}
+use Rattle.book.specs.Machine.{State, Verdict, changes, asks, refuses, start, step}
+use Rattle.worked.specs.Worked.{machine, Accepted, numberIn, Answer, permitted, not-permitted, marks, net, Says, All, Example, Right, table}
+use Rattle.worked.proofs.Computing.{listed, fed, rowed, grounded}
+use Rattle.worked.proofs.Certified.{both, left, right, memb, certified, present, missing, counted}
+use Rattle.worked.proofs.Marks.{net-is}
 
--- The statements that stand after an example's entries, and after the entries that it is set against, if there are any: each
+-- The statements that stand after an example's records, and after the records that it is set against, if there are any: each
 -- in front of those that it follows from.
 record Certificate : Type 0 where
   now : List ℕ
   before : List ℕ
 
-abbrev testAfter : List Entry → List ℕ → Bool
-testAfter es ns = test (ground (rowsOf (after es)) (flagsOf (after es))) ns
+-- The tests: the listed statements are those that stand, each record is accepted, and each answer is right of the list.
 
-abbrev answerb : List Entry → Certificate → Answer → Bool
-answerb es k (permitted c) = memb (markIn (after es) c) (k .now)
-answerb es k (not-permitted c) = not (memb (markIn (after es) c) (k .now))
+abbrev pub acceptsb : Verdict → Bool
+acceptsb changes = true
+acceptsb (asks c) = false
+acceptsb (refuses k) = false
+
+abbrev pub acceptedb : State → List Record → Bool
+acceptedb M [] = true
+acceptedb M (e ∷ es) = both (acceptsb (step M (writtenRecord e) .says)) (acceptedb (step M (writtenRecord e) .next) es)
+
+abbrev sameb : ℤ → ℤ → Bool
+sameb (pos a) (pos b) = eqb a b
+sameb (pos a) (negsuc b) = false
+sameb (negsuc a) (pos b) = false
+sameb (negsuc a) (negsuc b) = eqb a b
+
+abbrev answerb : List Record → Certificate → Answer → Bool
+answerb es k (permitted c) = memb (numberIn (machine es) c) (k .now)
+answerb es k (not-permitted c) = not (memb (numberIn (machine es) c) (k .now))
 answerb es k (marks n) = eqb (length (k .now)) n
-answerb es k (change old g n) = both (testAfter old (k .before)) (both (eqb (fresh (k .before) (k .now)) g) (eqb (fresh (k .now) (k .before)) n))
+answerb es k (net old z) = both (certified (machine old) (k .before)) (sameb (pos (length (k .now)) -ℤ pos (length (k .before))) z)
 
-abbrev answersb : List Entry → Certificate → List Answer → Bool
+abbrev answersb : List Record → Certificate → List Answer → Bool
 answersb es k [] = true
 answersb es k (a ∷ l) = both (answerb es k a) (answersb es k l)
+
+abbrev lineb : Example → Certificate → Bool
+lineb e k = both (acceptedb start (e .entries)) (both (certified (machine (e .entries)) (k .now)) (answersb (e .entries) k (e .answers)))
 
 abbrev tests : List Example → List Certificate → Bool
 tests [] ks = true
 tests (e ∷ es) [] = false
-tests (e ∷ es) (k ∷ ks) = both (testAfter (e .entries) (k .now)) (both (answersb (e .entries) k (e .answers)) (tests es ks))
+tests (e ∷ es) (k ∷ ks) = both (lineb e k) (tests es ks)
 
--- The test turned into what the table says.
+-- The tests turned into what the table says.
 
-module _ (es : List Entry) (k : Certificate) (t : T (testAfter es (k .now))) where
-  holds : (a : Answer) → T (answerb es k a) → Holds es a
-  holds (permitted c) u = record { always = present (rowsOf (after es)) (flagsOf (after es)) (k .now) t (markIn (after es) c) u }
-  holds (not-permitted c) u =
+accepts : (v : Verdict) → T (acceptsb v) → v ≡ changes
+accepts changes t = refl
+accepts (asks c) t = absurd t
+accepts (refuses k) t = absurd t
+
+pub accepted : (M : State) (es : List Record) → T (acceptedb M es) → Accepted M es
+accepted M [] t = tt
+accepted M (e ∷ es) t =
+    let a = acceptsb (step M (writtenRecord e) .says) in
+    let b = acceptedb (step M (writtenRecord e) .next) es in
+    (accepts (step M (writtenRecord e) .says) (left a b t), accepted (step M (writtenRecord e) .next) es (right a b t))
+
+same-int : (y z : ℤ) → T (sameb y z) → y ≡ z
+same-int (pos a) (pos b) t = ap pos (eqb→eq a b t)
+same-int (pos a) (negsuc b) t = absurd t
+same-int (negsuc a) (pos b) t = absurd t
+same-int (negsuc a) (negsuc b) t = ap negsuc (eqb→eq a b t)
+
+module _ (es : List Record) (k : Certificate) (t : T (certified (machine es) (k .now))) where
+  holds : (a : Answer) → T (answerb es k a) → Says es a
+  holds (permitted c) u = present (machine es) (k .now) t (numberIn (machine es) c) u
+  holds (not-permitted c) u = missing (machine es) (k .now) t (numberIn (machine es) c) u
+  holds (marks n) u = record { count = λ m j. counted (machine es) (k .now) t m j ∙ eqb→eq (length (k .now)) n u }
+  holds (net old z) u =
+      let a = certified (machine old) (k .before) in
+      let b = sameb (pos (length (k .now)) -ℤ pos (length (k .before))) z in
       record {
-        marks = standing (rowsOf (after es)) (flagsOf (after es));
-        closed = closed (rowsOf (after es)) (flagsOf (after es)) (k .now) t;
-        lacks = absent (rowsOf (after es)) (flagsOf (after es)) (k .now) t (markIn (after es) c) u;
-      }
-  holds (marks n) u = record { count = counted (rowsOf (after es)) (flagsOf (after es)) (k .now) t ∙ eqb→eq (length (k .now)) n u }
-  holds (change old g n) u =
-      let a = eqb (fresh (k .before) (k .now)) g in
-      let b = eqb (fresh (k .now) (k .before)) n in
-      let s : T (testAfter old (k .before)) = left (testAfter old (k .before)) (both a b) u in
-      let v : T (both a b) = right (testAfter old (k .before)) (both a b) u in
-      record {
-        gains =
-            gains (rowsOf (after old)) (rowsOf (after es)) (flagsOf (after old)) (flagsOf (after es)) (k .before) (k .now) s t
-            ∙ eqb→eq (fresh (k .before) (k .now)) g (left a b v);
-        losses =
-            gains (rowsOf (after es)) (rowsOf (after old)) (flagsOf (after es)) (flagsOf (after old)) (k .now) (k .before) t s
-            ∙ eqb→eq (fresh (k .now) (k .before)) n (right a b v);
+        difference = λ l m i j.
+            let p = counted (machine es) (k .now) t m j in
+            let q = counted (machine old) (k .before) (left a b u) l i in
+            net-is (machine old) (machine es) l m i j ∙ (λ x. pos (p x) -ℤ pos (q x)) ∙ same-int (pos (length (k .now)) -ℤ pos (length (k .before))) z (right a b u);
       }
 
-  answers-hold : (l : List Answer) → T (answersb es k l) → All (Holds es) l
+  answers-hold : (l : List Answer) → T (answersb es k l) → All (Says es) l
   answers-hold [] u = tt
   answers-hold (a ∷ l) u = (holds a (left (answerb es k a) (answersb es k l) u), answers-hold l (right (answerb es k a) (answersb es k l) u))
+
+right-line : (e : Example) (k : Certificate) → T (lineb e k) → Right e
+right-line e k t =
+    let a = acceptedb start (e .entries) in
+    let b = certified (machine (e .entries)) (k .now) in
+    let c = answersb (e .entries) k (e .answers) in
+    let u : T (both b c) = right a (both b c) t in
+    record {
+      accepted = accepted start (e .entries) (left a (both b c) t);
+      answered = answers-hold (e .entries) k (left b c u) (e .answers) (right b c u);
+    }
 
 tested : (es : List Example) (ks : List Certificate) → T (tests es ks) → All Right es
 tested [] ks t = tt
 tested (e ∷ es) [] t = absurd t
-tested (e ∷ es) (k ∷ ks) t =
-    let a = testAfter (e .entries) (k .now) in
-    let b = answersb (e .entries) k (e .answers) in
-    let u : T (both b (tests es ks)) = right a (both b (tests es ks)) t in
-    (answers-hold (e .entries) k (left a (both b (tests es ks)) t) (e .answers) (left b (tests es ks) u), tested es ks (right b (tests es ks) u))
+tested (e ∷ es) (k ∷ ks) t = (right-line e k (left (lineb e k) (tests es ks) t), tested es ks (right (lineb e k) (tests es ks) t))
 
 -- The certificates.
 
@@ -112,7 +143,7 @@ certificates =
     ∷ []
 
 computed : T (tests table certificates)
-unfolding written writtenConds writtenConcl writtenRight sameBytes same place has add number numberConds numberConcl numberRight condsOf rowOf resUnder conclUnder granted condition needsOf fired at atXY atX ofRow ground without step from after rowsOf withTrusts withLicences flagsOf markIn P1 P2 P3 P4 P5 P6 P6-added P7 P8 P9 P9-withdrawn P10 table certificates
+unfolding listed fed rowed grounded certificates
 computed = tt
 
 -- The standing statements of every example are as the table says.

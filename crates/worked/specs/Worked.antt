@@ -1,19 +1,21 @@
 -- Document 01, "Examples to prove and to run": "P1 to P10 form one proved table, stated as a whole over the rules". First what
--- an example is, then what its line of the table says, then the examples and the table.
+-- an example is, then what its line of the table says of the plain machine and its closed sets, then the examples and the table.
 use mathlib.Core.Path.{_≡_}
-use mathlib.Core.Bool.{cond, _&&_}
+use mathlib.Core.Logic.{_↔_}
 use mathlib.Core.List.{List, [], _∷_, _++_, map}
-use Prim.Native.Nat.{ℕ, zero, suc, _+_, _-_, _*_}
-use lib.Dec.{eqb}
-use lib.ListN.{length, set, replicate}
-use Rattle.sorts.specs.declared.Row.{Row}
-use Rattle.sorts.specs.Numbers.{numberOf}
-use Rattle.sorts.specs.Blank.{blankRow}
-use Rattle.rows.specs.Written.{Grant, Concl, grant, none, also, property, perm, issue, issueAny, run, export, same}
-use Rattle.rows.specs.Numbering.{number, place}
-use Rattle.rows.specs.Form.{conclOf, rowOf}
-use Rattle.rules.specs.Rules.{Closed}
-use Rattle.rules.specs.Standing.{In, standing}
+use Prim.Native.Nat.{ℕ, _≤_}
+use lib.IntN.{ℤ, negsuc}
+use lib.ListN.{length, getD}
+use Rattle.sorts.specs.declared.Status.the-variants.{Trusted, Issued}
+use Rattle.sorts.specs.Numbers.{numberOf, allMarks}
+use Rattle.rows.specs.Written.{Grant, Concl, grant, none, also, property, perm, issue, issueAny, run, export}
+use Rattle.rows.specs.Form.{conclOf}
+use Rattle.reader.specs.Records.{Record, enter, remove}
+use Rattle.exact.specs.Writing.{writtenRecord}
+use Rattle.book.specs.Machine.{State, changes, start, step}
+use Rattle.book.specs.Chains.{runs}
+use Rattle.book.specs.Closed.{Stands, Lacking}
+use Rattle.marks.specs.Counts.{ones, countsOf}
 
 -- "Smart 0, Attractive 1, Good 2, Great 3, Trusted 4."
 abbrev pub smart : ℕ → Concl
@@ -59,126 +61,63 @@ for-grants c = grant 0 1 none c
 abbrev pub for-packs : Concl → Grant
 for-packs c = grant 0 2 none c
 
--- What happens in an example, in the order in which the document lists it.
-pub data Entry : Type 0 where
-  -- "T: X" is a trusted grant
-  trust : Grant → Entry
-  -- "q: X" is a licence of q
-  licence : ℕ → Grant → Entry
-  -- a licence of q is withdrawn
-  withdraw : ℕ → Grant → Entry
+-- What happens in an example is a list of records, in the order in which the document lists it.
 
--- A licence is a pair of issuer and grant.
-pub record Licence : Type 0 where
-  pub issuer : ℕ
-  pub what : Grant
+-- "T: X" is a trusted grant.
+abbrev pub trust : Grant → Record
+trust g = enter Trusted g
 
--- What stands: the trusted grants, the licences, and the grants numbered, in order. A grant's number is its place in the last.
-pub record State : Type 0 where
-  pub trusts : List Grant
-  pub licences : List Licence
-  pub numbered : List Grant
+-- "q: X" is a licence of q.
+abbrev pub licence : ℕ → Grant → Record
+licence q g = enter (Issued (record { 0 = q })) g
 
--- The licences other than q's with grant g.
-unfoldable pub without : ℕ → Grant → List Licence → List Licence
-without q g [] = []
-without q g (l ∷ ls) = cond (eqb q (l .issuer) && same g (l .what)) (without q g ls) (l ∷ without q g ls)
+-- "Withdraw 0's": a licence of q is withdrawn.
+abbrev pub withdraw : ℕ → Grant → Record
+withdraw q g = remove (Issued (record { 0 = q })) g
 
--- A trusted grant or a licence is added, and its new grants are numbered; a withdrawal takes the licence out, and a number is
--- kept.
-unfoldable pub step : State → Entry → State
-step s (trust g) = record { trusts = g ∷ s .trusts; licences = s .licences; numbered = number g (s .numbered) }
-step s (licence q g) = record { trusts = s .trusts; licences = record { issuer = q; what = g } ∷ s .licences; numbered = number g (s .numbered) }
-step s (withdraw q g) = record { trusts = s .trusts; licences = without q g (s .licences); numbered = s .numbered }
+-- "It is fed the bytes of each call's record, and nothing from the book or its answers": the plain machine after the records.
+abbrev pub machine : List Record → State
+machine es = runs start (map writtenRecord es)
 
--- The entries one after the other.
-unfoldable pub from : State → List Entry → State
-from s [] = s
-from s (e ∷ es) = from (step s e) es
+-- "From those bytes, T, L and N alone it accepts the record or refuses it": it accepts each one.
+abbrev pub Accepted : State → List Record → Type 0
+Accepted M [] = Unit {0}
+Accepted M (e ∷ es) = (step M (writtenRecord e) .says ≡ changes) × Accepted (step M (writtenRecord e) .next) es
 
--- What stands after the entries, where nothing stood before them.
-unfoldable pub after : List Entry → State
-after es = from (record { trusts = []; licences = []; numbered = [] }) es
+-- The number of a written conclusion. "Mark c says that conclusion c is true."
+abbrev pub numberIn : State → Concl → ℕ
+numberIn M c = numberOf (conclOf (M .N) c)
 
--- The book's 64 rows: those of the numbered grants, then blank ones.
-unfoldable pub rowsOf : State → List Row
-rowsOf s = map (rowOf (s .numbered)) (s .numbered) ++ replicate (64 - length (s .numbered)) blankRow
+-- The marks of a state. "So there are 39,168 marks"; "A mark is a byte, 0 or 1"; "A statement .. has mark 1 exactly when it is in
+-- every set closed under the three rules".
+pub record MarksOf (M : State) (m : List ℕ) : Type 1 where
+  pub size : length m ≡ allMarks
+  pub bits : (n : ℕ) → getD m n 0 ≤ 1
+  pub stand : (n : ℕ) → (getD m n 0 ≡ 1) ↔ Stands M n
 
--- Flag 17 × g is set for each trusted grant, g its number.
-unfoldable pub withTrusts : List Grant → List Grant → List ℕ → List ℕ
-withTrusts N [] flags = flags
-withTrusts N (g ∷ gs) flags = withTrusts N gs (set flags (17 * place g N) 1)
-
--- Flag 17 × g + 1 + p is set for each licence of p, g its grant's number.
-unfoldable pub withLicences : List Grant → List Licence → List ℕ → List ℕ
-withLicences N [] flags = flags
-withLicences N (l ∷ ls) flags = withLicences N ls (set flags (17 * place (l .what) N + 1 + l .issuer) 1)
-
--- The book's flags, 17 for each of the 64 numbers: 0 but for those.
-unfoldable pub flagsOf : State → List ℕ
-flagsOf s = withTrusts (s .numbered) (s .trusts) (withLicences (s .numbered) (s .licences) (replicate 1088 0))
-
--- The mark that says that a written conclusion is true.
-unfoldable pub markIn : State → Concl → ℕ
-markIn s c = numberOf (conclOf (s .numbered) c)
-
--- Permitted: in every set closed under the three rules.
-pub record Permitted (s : State) (c : Concl) : Type 1 where
-  pub always : (S : ℕ → Type 0) → Closed (rowsOf s) (flagsOf s) S → S (markIn s c)
-
--- Not permitted: some list of marks is closed under the three rules and lacks it.
-pub record NotPermitted (s : State) (c : Concl) : Type 1 where
-  pub marks : List ℕ
-  pub closed : Closed (rowsOf s) (flagsOf s) (In marks)
-  pub lacks : In marks (markIn s c) → ⊥
-
--- How many marks are set: each is 0 or 1.
-abbrev pub ones : List ℕ → ℕ
-ones [] = 0
-ones (zero ∷ m) = ones m
-ones (suc b ∷ m) = suc (ones m)
-
--- How many marks went from 0 to 1, from one list of marks to the next.
-abbrev pub gained : List ℕ → List ℕ → ℕ
-gained [] m = 0
-gained (a ∷ l) [] = 0
-gained (zero ∷ l) (zero ∷ m) = gained l m
-gained (zero ∷ l) (suc b ∷ m) = suc (gained l m)
-gained (suc a ∷ l) (zero ∷ m) = gained l m
-gained (suc a ∷ l) (suc b ∷ m) = gained l m
-
--- How many went from 1 to 0.
-abbrev pub lost : List ℕ → List ℕ → ℕ
-lost l m = gained m l
-
--- What the document says of an example.
+-- What the document says of an example: a conclusion is permitted, or not; so many marks; the net, against the marks that stood
+-- after other records.
 pub data Answer : Type 0 where
   permitted : Concl → Answer
   not-permitted : Concl → Answer
-  -- so many marks stand
   marks : ℕ → Answer
-  -- against the marks that stood after other entries, so many are gained and so many lost
-  change : List Entry → ℕ → ℕ → Answer
+  net : List Record → ℤ → Answer
 
--- The marks that stand after the entries.
-abbrev pub standingAfter : List Entry → List ℕ
-standingAfter es = standing (rowsOf (after es)) (flagsOf (after es))
+-- So many of a state's marks stand.
+pub record Marked (M : State) (n : ℕ) : Type 1 where
+  pub count : (m : List ℕ) → MarksOf M m → ones m ≡ n
 
--- So many of the marks m are set.
-pub record Counted (m : List ℕ) (n : ℕ) : Type 1 where
-  pub count : ones m ≡ n
+-- "the net, which is gained less lost and may be below zero", from the marks of one state to those of another.
+pub record Net (L M : State) (z : ℤ) : Type 1 where
+  pub difference : (l m : List ℕ) → MarksOf L l → MarksOf M m → countsOf l m .net ≡ z
 
--- From the marks l to the marks m so many are gained and so many lost: the net is the first less the second.
-pub record Changed (l m : List ℕ) (g n : ℕ) : Type 1 where
-  pub gains : gained l m ≡ g
-  pub losses : lost l m ≡ n
-
--- An answer is right of the entries.
-abbrev pub Holds : List Entry → Answer → Type 1
-Holds es (permitted c) = Permitted (after es) c
-Holds es (not-permitted c) = NotPermitted (after es) c
-Holds es (marks n) = Counted (standingAfter es) n
-Holds es (change before g n) = Changed (standingAfter before) (standingAfter es) g n
+-- An answer is right of the records: "permitted exactly when each closed set contains the conclusion, not permitted exactly when
+-- some closed set lacks it".
+abbrev pub Says : List Record → Answer → Type 1
+Says es (permitted c) = Stands (machine es) (numberIn (machine es) c)
+Says es (not-permitted c) = Lacking (machine es) (numberIn (machine es) c)
+Says es (marks n) = Marked (machine es) n
+Says es (net before z) = Net (machine before) (machine es) z
 
 -- All of a list.
 abbrev pub All : {A : Type 0} → (A → Type 1) → List A → Type 1
@@ -187,12 +126,13 @@ All P (a ∷ l) = P a × All P l
 
 -- A line of the table: what is entered, and what the document says of it.
 pub record Example : Type 0 where
-  pub entries : List Entry
+  pub entries : List Record
   pub answers : List Answer
 
--- A line of the table is right where all its answers are.
-abbrev pub Right : Example → Type 1
-Right e = All (Holds (e .entries)) (e .answers)
+-- A line of the table is right where the machine accepts its records and all its answers are right.
+pub record Right (e : Example) : Type 1 where
+  pub accepted : Accepted start (e .entries)
+  pub answered : All (Says (e .entries)) (e .answers)
 
 -- P1: 0: Smart(2). 1: 0 said Smart(2) gives Attractive(2). T: Perm(1, issue, that grant). Attractive(2) permitted; 4 marks.
 unfoldable pub P1 : Example
@@ -275,6 +215,7 @@ P8 =
     }
 
 -- P9: 0: Smart(2). 1: 0 said Smart(2) gives Good(2). T: 0 said Smart(2) and 1 said Good(2) give Trusted(2). Permitted.
+-- Besides, 3 marks.
 unfoldable pub P9 : Example
 P9 =
     record {
@@ -286,12 +227,12 @@ P9 =
       answers = permitted (trusted 2) ∷ marks 3 ∷ [];
     }
 
--- Withdraw 0's: net -3.
+-- Withdraw 0's: net -3, which is `negsuc 2`. Besides, 0 marks.
 unfoldable pub P9-withdrawn : Example
 P9-withdrawn =
     record {
       entries = P9 .entries ++ (withdraw 0 (plain (smart 2)) ∷ []);
-      answers = marks 0 ∷ change (P9 .entries) 0 3 ∷ [];
+      answers = marks 0 ∷ net (P9 .entries) (negsuc 2) ∷ [];
     }
 
 -- P10: T: for all packs k, Perm(5, run, k). Run of pack 31 permitted, export not; 32 marks.

@@ -1,1 +1,2 @@
-// Worked examples of the three rules: a table in specs/Worked.antt, proved in proofs/. There is no code here.
+// Worked examples of the three rules, over the plain machine: a table in specs/Worked.antt, proved in proofs/. There is no code
+// here.

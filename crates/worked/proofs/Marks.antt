@@ -1,0 +1,52 @@
+-- The marks of a state: for every list of records there are some, and no others; and the net between two.
+use Prim.Native.Nat.{ℕ, zero, suc, _+_}
+use mathlib.Core.Path.{_≡_, refl, sym, ap, subst, _∙_}
+use mathlib.Core.List.{List, map}
+use native.Mathlib.Nat.{add-zero, add-suc}
+use native.Mathlib.Omega.{arith}
+use lib.IntN.{ℤ, pos, negsuc, predℤ, negℤ, _+ℤ_, _-ℤ_, pred-suc, sucℤ-+ℤ, +ℤ-predℤ}
+use Rattle.reader.specs.Records.{Record}
+use Rattle.exact.specs.Writing.{writtenRecord}
+use Rattle.rules.proofs.Saturation.{same-marks}
+use Rattle.book.specs.Machine.{State, start}
+use Rattle.marks.specs.Counts.{gains, ones, countsOf}
+use Rattle.book.specs.Chains.{runs}
+use Rattle.demands.proofs.Balance.{balance}
+use Rattle.demands.proofs.Existence.{chain-some}
+use Rattle.demands.proofs.Demand3.{demand-3}
+use Rattle.worked.specs.Worked.{machine, MarksOf}
+
+-- The calls with these records from a fresh book leave such marks.
+pub marks-some : (es : List Record) → (m : List ℕ) × MarksOf (machine es) m
+marks-some es =
+    let K = chain-some (map writtenRecord es) in
+    let D = demand-3 (K .calls) (K .book) (K .marks) (K .chain) in
+    (K .marks, subst (λ (ss : List (List ℕ)). MarksOf (runs start ss) (K .marks)) (K .same) (record { size = D .form .marks; bits = D .form .markBits; stand = D .marks }))
+
+-- A state has one list of marks.
+pub marks-one : (M : State) (l m : List ℕ) → MarksOf M l → MarksOf M m → l ≡ m
+marks-one M l m j k =
+    same-marks l m (j .size ∙ sym (k .size)) (j .bits) (k .bits) (λ n h. k .stand n .1 (j .stand n .0 h)) (λ n h. j .stand n .1 (k .stand n .0 h))
+
+-- differences of counts
+
+less-suc : (a b : ℕ) → pos (suc a) -ℤ pos (suc b) ≡ pos a -ℤ pos b
+less-suc a b = ap (λ (z : ℤ). pos (suc a) +ℤ z) (below b) ∙ +ℤ-predℤ (pos (suc a)) (negℤ (pos b)) ∙ ap predℤ (sucℤ-+ℤ (pos a) (negℤ (pos b))) ∙ pred-suc (pos a -ℤ pos b)
+  where
+    below : (n : ℕ) → negsuc n ≡ predℤ (negℤ (pos n))
+    below zero = refl
+    below (suc n) = refl
+
+less-more : (a b k : ℕ) → pos (a + k) -ℤ pos (b + k) ≡ pos a -ℤ pos b
+less-more a b zero = λ i. pos (add-zero a i) -ℤ pos (add-zero b i)
+less-more a b (suc k) = (λ i. pos (add-suc a k i) -ℤ pos (add-suc b k i)) ∙ less-suc (a + k) (b + k) ∙ less-more a b k
+
+same-less : (a b c d : ℕ) → a + d ≡ c + b → pos a -ℤ pos b ≡ pos c -ℤ pos d
+same-less a b c d e =
+    let f : b + d ≡ d + b = omega arith in
+    sym (less-more a b d) ∙ (λ i. pos (e i) -ℤ pos (f i)) ∙ less-more c d b
+
+-- The net is the marks standing now less those that stood.
+pub net-is : (L M : State) (l m : List ℕ) → MarksOf L l → MarksOf M m → countsOf l m .net ≡ pos (ones m) -ℤ pos (ones l)
+unfolding countsOf
+net-is L M l m j k = same-less (gains l m) (gains m l) (ones m) (ones l) (balance l m (j .size ∙ sym (k .size)) (j .bits) (k .bits))
