@@ -5,20 +5,22 @@ use mathlib.Core.Bool.{Bool, true, false, cond}
 use mathlib.Core.Logic.{_↔_}
 use mathlib.Core.List.{List}
 use native.Mathlib.Omega.{arith}
-use lib.ListN.{length, getD}
+use lib.ListN.{length, getD, length-append}
 use lib.Seq.{length-take-le}
 use lib.Dec.{eqb}
-use Rattle.rows.specs.Numbering.{has, number, numberConcl}
-use Rattle.reader.specs.Bytes.{Outcome, got, refused, form}
-use Rattle.reader.specs.Records.{letters, Record, TG, ST, LI, WD, QU, readRecord}
+use Rattle.rows.specs.Numbering.{number, numberConcl}
+use Rattle.ranges.specs.Bytes.{Outcome, got, refused}
+use Rattle.reader.specs.Records.{Record, enter, remove, query, readRecord}
 use Rattle.reader.specs.Requests.{fits}
-use Rattle.reader.specs.Writing.{writtenRecord}
-use Rattle.reader.proofs.Exact.{record-exact}
-use Rattle.reader.proofs.Faults.{fault-range}
+use Rattle.reader.specs.Records.{lettersOf}
+use Rattle.exact.specs.Writing.{kindOf, contentOf, writtenRecord}
+use Rattle.exact.proofs.Letters.{two-letters}
+use Rattle.exact.proofs.Exact.{record-exact}
+use Rattle.exact.proofs.Faults.{fault-range}
 use Rattle.book.specs.declared.Book.{Book}
 use Rattle.book.specs.declared.Answer.the-variants.{Permitted, NotPermitted}
 use Rattle.book.specs.declared.Answered.{Answered}
-use Rattle.book.specs.Machine.{State, Step, Verdict, changes, asks, refuses, act, acted, step, hasLicence}
+use Rattle.book.specs.Machine.{State, Step, Verdict, changes, asks, refuses, act, acted, step, stands}
 use Rattle.book.specs.Books.{BookForm, Shows}
 use Rattle.book.specs.Calls.{answerOf, Called}
 use Rattle.book.specs.Chains.{Call}
@@ -27,11 +29,10 @@ use Rattle.journal.specs.Journals.{Calls, ended, then, Ends, AllEnd}
 -- a record is as long as its letters at least
 letters-long : (r : Record) → 2 ≤ length (writtenRecord r)
 unfolding writtenRecord
-letters-long (TG g) = omega arith
-letters-long (ST g) = omega arith
-letters-long (LI p g) = omega arith
-letters-long (WD p g) = omega arith
-letters-long (QU c) = omega arith
+letters-long r =
+    let l = ap (length {A = ℕ}) (two-letters (kindOf r)) in
+    let h = length-append (lettersOf (kindOf r)) (contentOf r) in
+    omega arith
 
 record-long : (s : List ℕ) (r : Record) (n : ℕ) → readRecord s ≡ got r n → 2 ≤ n
 record-long s r n e =
@@ -55,11 +56,9 @@ pick false n x y p q = q
 
 act-used : (M : State) (r : Record) (n : ℕ) → (act M r n .used ≡ n) × (Ending (act M r n .says) → ⊥)
 unfolding act
-act-used M (TG g) n = pick (fits (number g (M .N))) n _ _ (refl, λ x. x) (refl, late 6 (omega arith))
-act-used M (ST g) n = pick (has g (M .T)) n _ _ (refl, λ x. x) (refl, late 7 (omega arith))
-act-used M (LI p g) n = pick (fits (number g (M .N))) n _ _ (refl, λ x. x) (refl, late 6 (omega arith))
-act-used M (WD p g) n = pick (hasLicence (record { issuer = p; what = g }) (M .L)) n _ _ (refl, λ x. x) (refl, late 7 (omega arith))
-act-used M (QU c) n = pick (fits (numberConcl c (M .N))) n _ _ (refl, λ x. x) (refl, late 6 (omega arith))
+act-used M (enter by g) n = pick (fits (number g (M .N))) n _ _ (refl, λ x. x) (refl, late 6 (omega arith))
+act-used M (remove by g) n = pick (stands M by g) n _ _ (refl, λ x. x) (refl, late 7 (omega arith))
+act-used M (query c) n = pick (fits (numberConcl c (M .N))) n _ _ (refl, λ x. x) (refl, late 6 (omega arith))
 
 acted-ends : (M : State) (s : List ℕ) (o : Outcome Record) → readRecord s ≡ o → (acted M o .used ≡ 0) ↔ Ending (acted M o .says)
 acted-ends M s (got r n) e =

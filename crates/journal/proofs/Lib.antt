@@ -2,7 +2,6 @@ pub mod Texts
 pub mod Digits
 pub mod Signs
 pub mod Letters
-pub mod Marks
 pub mod Saying
 pub mod Ending
 pub mod Listings

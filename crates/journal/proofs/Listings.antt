@@ -17,9 +17,9 @@ use Rattle.demands.proofs.Existence.{call-some}
 use Rattle.demands.proofs.Reached.{Reached, fresh-form, fresh-shows, fresh-reached, reached-after}
 use Rattle.demands.proofs.Unique.{no-choice}
 use Rattle.journal.specs.declared.text.Text.{Text}
-use Rattle.journal.specs.Journals.{restAfter, Calls, ended, then, Listed, over, read, recordLines, Told, Follows, Ran}
+use Rattle.journal.specs.Journals.{restAfter, Calls, ended, then, Listed, over, read, recordLines, Told, Follows, Finished}
 use Rattle.journal.specs.Lines.{lineOf, endOf}
-use Rattle.journal.specs.Texts.{Holds}
+use Rattle.journal.specs.Texts.{Carries}
 use Rattle.journal.proofs.Ending.{all-end}
 
 -- the calls of a journal are a list of calls, each on the book and marks that the last one left
@@ -37,7 +37,7 @@ listed-told s ls h (over l) = absurd (omega arith)
 listed-told s ls h (read cs b m l x) =
     record { calls = cs; book = b; marks = m; made = x; lines = refl; demand = calls-demand-3 x; ends = all-end start fresh-form fresh-shows x }
 
-pub ran-told : (s : List ℕ) (k : ℕ) → length s ≤ 65536 → (R : Ran s k) → Told s (R .lines)
+pub ran-told : (s : List ℕ) (k : ℕ) → length s ≤ 65536 → (R : Finished s k) → Told s (R .lines)
 ran-told s k h R = listed-told s (R .lines) h (R .listed)
 
 -- a call leaves less to read
@@ -107,8 +107,8 @@ listed-only s ls ms (read cs b m l x) (read ds b′ m′ k y) =
     λ i. recordLines 1 (e .0 i) ++ (endOf (length (e .0 i)) (e .2 i) ∷ [])
 
 -- So a text that is written after k lines is line k of the listing.
-pub follows-listed : (s : List ℕ) (ls : List (List ℕ)) (k : ℕ) (t : Text) → Listed s ls → Follows s k t → Holds t (getD ls k [])
-follows-listed s ls k t L F = subst (λ (x : List (List ℕ)). Holds t (getD x k [])) (listed-only s (F .lines) ls (F .listed) L) (F .holds)
+pub follows-listed : (s : List ℕ) (ls : List (List ℕ)) (k : ℕ) (t : Text) → Listed s ls → Follows s k t → Carries t (getD ls k [])
+follows-listed s ls k t L F = subst (λ (x : List (List ℕ)). Carries t (getD x k [])) (listed-only s (F .lines) ls (F .listed) L) (F .holds)
 
 -- each call gives a line
 

@@ -16,8 +16,8 @@ use Rattle.book.specs.Chains.{Call, freshBook, freshMarks}
 use Rattle.demands.proofs.Reached.{Reached, fresh-reached, reached-after}
 use Rattle.journal.specs.declared.Stepped.{Stepped}
 use Rattle.journal.specs.declared.text.Text.{Text}
-use Rattle.journal.specs.Journals.{restAfter, Calls, ended, then, nextPlace, Steps, Follows, Ran, Listed, over, read, recordLines}
-use Rattle.journal.specs.Texts.{Holds}
+use Rattle.journal.specs.Journals.{restAfter, Calls, ended, then, nextPlace, Steps, Follows, Finished, Listed, over, read, recordLines}
+use Rattle.journal.specs.Texts.{Carries}
 use Rattle.journal.specs.Lines.{lineOf, endOf, refusedLine}
 use Rattle.journal.proofs.Listings.{rest-none, rest-some, calls-from, lines-count, line-at}
 
@@ -25,8 +25,8 @@ use Rattle.journal.proofs.Listings.{rest-none, rest-some, calls-from, l
 pub call-rest : {b : Book} {m : List ℕ} (s : List ℕ) (at : ℕ) {r : Answered} {n : List ℕ} → Called b m (take (length s - at) (drop at s)) r n → Called b m (drop at s) r n
 call-rest {b} {m} s at {r} {n} h = subst (λ (x : List ℕ). Called b m x r n) (take-all (length s - at) (drop at s) (omega (arith, length-drop at s))) h
 
-pub line-rest : (n : ℕ) (s : List ℕ) (at : ℕ) (a : Answer) {t : Text} → Holds t (lineOf n (take (length s - at) (drop at s)) a) → Holds t (lineOf n (drop at s) a)
-line-rest n s at a {t} h = subst (λ (x : List ℕ). Holds t (lineOf n x a)) (take-all (length s - at) (drop at s) (omega (arith, length-drop at s))) h
+pub line-rest : (n : ℕ) (s : List ℕ) (at : ℕ) (a : Answer) {t : Text} → Carries t (lineOf n (take (length s - at) (drop at s)) a) → Carries t (lineOf n (drop at s) a)
+line-rest n s at a {t} h = subst (λ (x : List ℕ). Carries t (lineOf n x a)) (take-all (length s - at) (drop at s) (omega (arith, length-drop at s))) h
 
 module _ (s : List ℕ) (at used : ℕ) where
   next-none : used ≡ 0 → nextPlace (length s) at used ≡ length s
@@ -119,7 +119,7 @@ module _ (s : List ℕ) {b : Book} {m : List ℕ} (at n : ℕ) (R : Read s b m a
           listed = read cs (K .book) (K .marks) h (step-more (K .calls) (K .book) (K .marks) (K .made));
           within = omega (arith, R .count, length-append (recordLines 1 cs) (endOf (length cs) (K .marks) ∷ []), lines-count 1 cs, length-append (R .calls) (this ∷ K .calls));
           holds =
-              subst (Holds (r .line))
+              subst (Carries (r .line))
               (sym (ap (λ (k : ℕ). getD (recordLines 1 cs ++ (endOf (length cs) (K .marks) ∷ [])) k []) (sym (R .count)) ∙
               line-at 1 (R .calls) this (K .calls) (endOf (length cs) (K .marks) ∷ []) ∙
               ap (λ (k : ℕ). lineOf k (drop at s) (r .answered .answer)) (omega (arith, R .count)))) (S .line);
@@ -137,25 +137,25 @@ module _ (s : List ℕ) {b : Book} {m : List ℕ} (at n : ℕ) (R : Read s b m a
     listing-count = omega (arith, length-append (recordLines 1 (R .calls)) (endOf (length (R .calls)) m ∷ []), lines-count 1 (R .calls), R .count)
 
     -- and the last line is the one after those before
-    pub end-follows : (t : Text) → Holds t (endOf n m) → Follows s n t
+    pub end-follows : (t : Text) → Carries t (endOf n m) → Follows s n t
     end-follows t e =
         record {
           lines = _;
           listed = listing;
           within = omega (arith, listing-count);
           holds =
-              subst (Holds t)
+              subst (Carries t)
               (sym (ap (λ (k : ℕ). getD (recordLines 1 (R .calls) ++ (endOf (length (R .calls)) m ∷ [])) k []) (sym (lines-count 1 (R .calls) ∙ R .count)) ∙
               getD-append-seam (recordLines 1 (R .calls)) (endOf (length (R .calls)) m) [] [] ∙ ap (λ (k : ℕ). endOf k m) (R .count))) e;
         }
 
-    pub read-ran : (k : ℕ) → k ≡ n + 1 → Ran s k
+    pub read-ran : (k : ℕ) → k ≡ n + 1 → Finished s k
     read-ran k e = record { lines = _; listed = listing; count = listing-count ∙ sym e }
 
 -- a journal that is too long is refused whole
-pub over-follows : (s : List ℕ) (k : ℕ) (t : Text) → 65536 < length s → k ≡ 0 → Holds t (refusedLine 8) → Follows s k t
+pub over-follows : (s : List ℕ) (k : ℕ) (t : Text) → 65536 < length s → k ≡ 0 → Carries t (refusedLine 8) → Follows s k t
 over-follows s k t l e h =
-    record { lines = _; listed = over (omega arith); within = omega (arith, e); holds = subst (λ (i : ℕ). Holds t (getD (refusedLine 8 ∷ []) i [])) (sym e) h }
+    record { lines = _; listed = over (omega arith); within = omega (arith, e); holds = subst (λ (i : ℕ). Carries t (getD (refusedLine 8 ∷ []) i [])) (sym e) h }
 
-pub over-ran : (s : List ℕ) (k : ℕ) → 65536 < length s → k ≡ 1 → Ran s k
+pub over-ran : (s : List ℕ) (k : ℕ) → 65536 < length s → k ≡ 1 → Finished s k
 over-ran s k l e = record { lines = refusedLine 8 ∷ []; listed = over (omega arith); count = sym e }

@@ -10,10 +10,10 @@ use mir.Syntax.{w32}
 use mir.Val.{toZ, ofZ}
 use mir.Facts.{toZ-ofZ}
 use borrow.Author.Needs.{sfits-of}
-use Rattle.book.specs.declared.Counts.{Counts}
+use Rattle.marks.specs.declared.Counts.{Counts}
 use Rattle.book.specs.declared.Answer.{Answer}
 use Rattle.book.specs.declared.Answer.the-variants.{Changed}
-use Rattle.journal.specs.Lines.{signed, space, lettersOf, said}
+use Rattle.journal.specs.Lines.{signed, space, lettersIn, said}
 use Rattle.journal.proofs.Digits.{decimal-few}
 
 signed-few : (z : ℤ) → mag z < 2147483648 → length (signed z) ≤ 21
@@ -24,6 +24,6 @@ signed-few (negsuc n) l = omega (arith, decimal-few (suc n) (omega arith))
 pub net-few : (z : ℤ) → mag z < 2147483648 → length (signed (toZ w32 (ofZ w32 z))) ≤ 21
 net-few z l = omega (arith, signed-few z l, ap (λ (x : ℤ). length (signed x)) (toZ-ofZ {w = w32} {z = z} (sfits-of l)))
 
-pub said-changed : (s : List ℕ) (a : Answer) (c : Counts) → a ≡ Changed c → mag (c .net) < 2147483648 → lettersOf s ++ space ++ signed (toZ w32 (ofZ w32 (c .net))) ≡ said s a
+pub said-changed : (s : List ℕ) (a : Answer) (c : Counts) → a ≡ Changed c → mag (c .net) < 2147483648 → lettersIn s ++ space ++ signed (toZ w32 (ofZ w32 (c .net))) ≡ said s a
 unfolding said
-said-changed s a c e l = ap (λ (x : ℤ). lettersOf s ++ space ++ signed x) (toZ-ofZ {w = w32} {z = c .net} (sfits-of l)) ∙ ap (said s) (sym e)
+said-changed s a c e l = ap (λ (x : ℤ). lettersIn s ++ space ++ signed x) (toZ-ofZ {w = w32} {z = c .net} (sfits-of l)) ∙ ap (said s) (sym e)

@@ -7,7 +7,7 @@ use native.Mathlib.Numerals.{add-one}
 use lib.ListN.{length, take, getD, set, replicate, length-append}
 use lib.Seq.{take-suc-set, take-suc, getD-set-other}
 use Rattle.journal.specs.declared.text.Text.{Text}
-use Rattle.journal.specs.Texts.{written, Holds}
+use Rattle.journal.specs.Texts.{written, Carries}
 use Rattle.journal.specs.inner.Texts.{Puts}
 
 zeros : (k i : ℕ) → getD {A = ℕ} (replicate k 0) i 0 ≡ 0
@@ -15,7 +15,7 @@ zeros zero i = refl
 zeros (suc k) zero = refl
 zeros (suc k) (suc i) = zeros k i
 
-pub new-holds : Holds (record { bytes = replicate 64 0; len = 0 }) []
+pub new-holds : Carries (record { bytes = replicate 64 0; len = 0 }) []
 new-holds = record { text = refl; len = refl; fits = omega arith; past = λ i l. zeros 64 i }
 
 -- one byte after a text
@@ -44,5 +44,5 @@ pub puts-as : {t : Text} {v : List ℕ} {r : Text} {w : List ℕ} → Puts t v r
 puts-as {t} {v} {r} {w} p e = subst (λ (x : List ℕ). Puts t x r) e p
 
 -- what is put after no byte is the whole text
-pub puts-whole : {t : Text} {w : List ℕ} {r : Text} → Holds t [] → Puts t w r → r .len ≤ 64 → Holds r w
+pub puts-whole : {t : Text} {w : List ℕ} {r : Text} → Carries t [] → Puts t w r → r .len ≤ 64 → Carries r w
 puts-whole {t} {w} {r} h p l = record { text = p .text ∙ ap (λ (x : List ℕ). x ++ w) (h .text); len = omega (arith, p .len, h .len); fits = l; past = λ i k. p .past i k ∙ h .past i (omega (arith, p .len)) }

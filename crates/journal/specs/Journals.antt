@@ -16,7 +16,7 @@ use Rattle.demands.specs.Demands.{Demand3}
 use Rattle.journal.specs.declared.Stepped.{Stepped}
 use Rattle.journal.specs.declared.text.Text.{Text}
 use Rattle.journal.specs.Lines.{lineOf, endOf, refusedLine}
-use Rattle.journal.specs.Texts.{Holds}
+use Rattle.journal.specs.Texts.{Carries}
 
 -- "One record may be followed by others; the answer carries the bytes used." "Refusals 1 to 5 end the reading": they use no
 -- byte. What is left to read of a journal s after a record of it.
@@ -74,7 +74,7 @@ nextPlace len at used = cond (eqb used 0) len (min len (at + used))
 -- line is that record's.
 pub record Steps (b : Book) (m s : List ℕ) (at n : ℕ) (r : Stepped) (m′ : List ℕ) : Type 0 where
   pub call : Called b m (drop at s) (r .answered) m′
-  pub line : Holds (r .line) (lineOf n (drop at s) (r .answered .answer))
+  pub line : Carries (r .line) (lineOf n (drop at s) (r .answered .answer))
   pub next : r .next ≡ nextPlace (length s) at (r .answered .used)
 
 -- DEMANDED of a text that is written after k lines: it is line k, counted from 0, of the listing of s. (A journal has one listing:
@@ -83,10 +83,10 @@ pub record Follows (s : List ℕ) (k : ℕ) (t : Text) : Type 0 where
   pub lines : List (List ℕ)
   pub listed : Listed s lines
   pub within : k < length lines
-  pub holds : Holds t (getD lines k [])
+  pub holds : Carries t (getD lines k [])
 
 -- THE PROMISE of listing s: so many lines were written, one after another, as its listing has.
-pub record Ran (s : List ℕ) (k : ℕ) : Type 0 where
+pub record Finished (s : List ℕ) (k : ℕ) : Type 0 where
   pub lines : List (List ℕ)
   pub listed : Listed s lines
   pub count : length lines ≡ k

@@ -7,7 +7,7 @@ use lib.Dec.{ltb}
 use lib.IntN.{ℤ, pos, negsuc}
 use Rattle.book.specs.declared.Answer.{Answer}
 use Rattle.book.specs.declared.Answer.the-variants.{Permitted, NotPermitted, Changed, Refused}
-use Rattle.book.specs.Counts.{ones}
+use Rattle.marks.specs.Counts.{ones}
 
 -- The digits of n without leading zeros, the last k where there are more; `0` to `9` are 48 to 57.
 unfoldable pub digits : ℕ → ℕ → List ℕ
@@ -43,15 +43,15 @@ abbrev pub refusedWord : List ℕ
 refusedWord = 114 ∷ 101 ∷ 102 ∷ 117 ∷ 115 ∷ 101 ∷ 100 ∷ 32 ∷ []
 
 -- "its letters": a record "opens with two letters in ASCII".
-abbrev pub lettersOf : List ℕ → List ℕ
-lettersOf s = take 2 s
+abbrev pub lettersIn : List ℕ → List ℕ
+lettersIn s = take 2 s
 
 -- "then its letters and signed net, or letters and the query's answer, or `refused` and the number": what the line of the
 -- record that s starts with says of the answer.
 unfoldable pub said : List ℕ → Answer → List ℕ
-said s (Changed c) = lettersOf s ++ space ++ signed (c .net)
-said s Permitted = lettersOf s ++ permitted
-said s NotPermitted = lettersOf s ++ notPermitted
+said s (Changed c) = lettersIn s ++ space ++ signed (c .net)
+said s Permitted = lettersIn s ++ permitted
+said s NotPermitted = lettersIn s ++ notPermitted
 said s (Refused k) = refusedWord ++ decimal k
 
 -- "Each record gives a line with its number from 1", a space, what is said, and the line's end.

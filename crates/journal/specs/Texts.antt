@@ -10,7 +10,7 @@ abbrev pub written : Text → List ℕ
 written t = take (t .len) (t .bytes)
 
 -- The text t is w, whole, and its bytes past that are 0.
-pub record Holds (t : Text) (w : List ℕ) : Type 0 where
+pub record Carries (t : Text) (w : List ℕ) : Type 0 where
   pub text : written t ≡ w
   pub len : t .len ≡ length w
   pub fits : t .len ≤ 64

@@ -2,16 +2,15 @@
 use crate::text;
 use crate::text::Text;
 use book::Answer;
+use marks::standing;
 use reader::records;
-use reader::records::Kind;
 use reader::records::MarkOut;
 ghost use mathlib.Core.Path.{_≡_};
 ghost use Prim.Native.Nat.{_≤_};
 ghost use lib.ListN.{take};
-ghost use Rattle.journal.specs.Lines.{lettersOf, said, lineOf, endOf, refusedLine};
-ghost use Rattle.journal.specs.Texts.{Holds};
-ghost use Rattle.journal.specs.inner.Texts.{Puts, oneOf};
-ghost use Rattle.book.specs.Counts.{ones};
+ghost use Rattle.journal.specs.Lines.{lettersIn, said, lineOf, endOf, refusedLine};
+ghost use Rattle.journal.specs.Texts.{Carries};
+ghost use Rattle.journal.specs.inner.Texts.{Puts};
 
 // The first two bytes of s, or all where it has fewer.
 fn first_two(s: &[u8]) -> &[u8]
@@ -26,19 +25,13 @@ fn first_two(s: &[u8]) -> &[u8]
 // The letters of the record that s starts with.
 fn put_letters(t: Text, s: &[u8]) -> Text
     requires { ⌜ t .len ≤ 62 ⌝ }
-    ensures { λ r. ⌜ Puts t (lettersOf (now (s .entry))) r ⌝ }
+    ensures { λ r. ⌜ Puts t (lettersIn (now (s .entry))) r ⌝ }
 {
-    let MarkOut::Got(k) = records::read_mark(s) else {
+    let MarkOut::Got(k, _) = records::read_mark(s) else {
         return text::put(t, first_two(s));
     };
-    match k {
-        Kind::Tg => text::put(t, &records::TG),
-        Kind::St => text::put(t, &records::ST),
-        Kind::Li => text::put(t, &records::LI),
-        Kind::Wd => text::put(t, &records::WD),
-        Kind::Qu => text::put(t, &records::QU),
-        Kind::Other => text::put(t, first_two(s)),
-    }
+    let m = k.letters();
+    text::put(t, &m)
 }
 
 // What the line of the record that s starts with says of its answer.
@@ -56,7 +49,7 @@ fn put_said(t: Text, s: &[u8], a: Answer) -> Text
 
 // The line of record n, which s starts with.
 pub fn record_line(n: usize, s: &[u8], a: Answer) -> Text
-    ensures { λ r. ⌜ Holds r (lineOf n (now (s .entry)) a) ⌝ }
+    ensures { λ r. ⌜ Carries r (lineOf n (now (s .entry)) a) ⌝ }
 {
     let t = text::put_decimal(Text::new(), n);
     put_said(t.push(b' '), s, a).push(b'\n')
@@ -64,38 +57,17 @@ pub fn record_line(n: usize, s: &[u8], a: Answer) -> Text
 
 // The line of a journal that is refused whole.
 pub fn refused_line(k: u8) -> Text
-    ensures { λ r. ⌜ Holds r (refusedLine k) ⌝ }
+    ensures { λ r. ⌜ Carries r (refusedLine k) ⌝ }
 {
     let t = text::put(Text::new(), b"refused ");
     text::put_decimal(t, k as usize).push(b'\n')
 }
 
-// How many marks stand.
-pub fn standing(marks: &[u8]) -> usize
-    ensures { λ r. ⌜ r ≡ ones (now (marks .entry)) ⌝ }
-{
-    let n = marks.len();
-    let mut k: usize = 0;
-    let mut i: usize = 0;
-    while i < n {
-        k += one(marks[i]);
-        i += 1;
-    }
-    k
-}
-
-// 1 for a mark that stands.
-fn one(mark: u8) -> usize
-    ensures { λ r. ⌜ (r ≡ oneOf mark) × (r ≤ 1) ⌝ }
-{
-    if mark == 1 { 1 } else { 0 }
-}
-
 // The last line, after n lines of records.
 pub fn end_line(n: usize, marks: &[u8]) -> Text
-    ensures { λ r. ⌜ Holds r (endOf n (now (marks .entry))) ⌝ }
+    ensures { λ r. ⌜ Carries r (endOf n (now (marks .entry))) ⌝ }
 {
     let t = text::put_decimal(text::put(Text::new(), b"end "), n);
-    let u = text::put_decimal(text::put(t, b" marks "), standing(marks));
+    let u = text::put_decimal(text::put(t, b" marks "), standing::standing(marks));
     u.push(b'\n')
 }

@@ -3,7 +3,7 @@ ghost use mathlib.Core.List.{[], _∷_};
 ghost use Prim.Native.Nat.{_+_, _<_, _≤_};
 ghost use lib.ListN.{length};
 ghost use Rattle.journal.specs.Lines.{decimal, signed};
-ghost use Rattle.journal.specs.Texts.{Holds};
+ghost use Rattle.journal.specs.Texts.{Carries};
 ghost use Rattle.journal.specs.inner.Texts.{Puts};
 
 pub struct Text {
@@ -14,7 +14,7 @@ pub struct Text {
 impl Text {
     // No byte yet.
     pub fn new() -> Text
-        ensures { λ r. ⌜ Holds r [] ⌝ }
+        ensures { λ r. ⌜ Carries r [] ⌝ }
     {
         let bytes = [0u8; 64];
         Text { bytes, len: 0 }

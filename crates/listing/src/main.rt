@@ -13,7 +13,7 @@ ghost use Prim.Native.Nat.{_+_, _<_, _≤_};
 ghost use lib.ListN.{length, take};
 ghost use Rattle.book.specs.Chains.{freshMarks};
 ghost use Rattle.io.specs.Counts.{Counts};
-ghost use Rattle.journal.specs.Journals.{Follows, Ran};
+ghost use Rattle.journal.specs.Journals.{Follows, Finished};
 ghost use Rattle.libc.specs.Io.{Moved};
 ghost use Rattle.listing.specs.Inputs.{Heard};
 
@@ -136,7 +136,7 @@ fn write(o: Output, s: &[u8], line: Text) -> Output
 // Reads a journal s record by record, from a fresh book, and writes a line for each, and the last line.
 fn list_records(s: &[u8], marks: &mut [u8]) -> Output
     requires { ⌜ (length (now s) ≤ 65536) × (now marks ≡ freshMarks) ⌝ }
-    ensures { λ r. ⌜ Ran (now (s .entry)) (r .lines) ⌝ }
+    ensures { λ r. ⌜ Finished (now (s .entry)) (r .lines) ⌝ }
 {
     let mut b = Book::new();
     let mut at: usize = 0;
@@ -158,7 +158,7 @@ fn list_records(s: &[u8], marks: &mut [u8]) -> Output
 // The listing of the bytes that were read, to the end of the input or of their room, with no failure.
 fn list(i: Input, bytes: &[u8], marks: &mut [u8]) -> Output
     requires { ⌜ (i .open ≡ false) × (i .failed ≡ false) × Counts (i .n) (now bytes) × (now marks ≡ freshMarks) ⌝ }
-    ensures { λ r. ⌜ Ran (take (i .n) (now (bytes .entry))) (r .lines) ⌝ }
+    ensures { λ r. ⌜ Finished (take (i .n) (now (bytes .entry))) (r .lines) ⌝ }
 {
     let n = i.n;
     if journal::over(n) {

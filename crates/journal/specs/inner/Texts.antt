@@ -2,15 +2,9 @@
 use Prim.Native.Nat.{ℕ, _+_, _≤_}
 use mathlib.Core.Path.{_≡_}
 use mathlib.Core.List.{List, _++_}
-use mathlib.Core.Bool.{cond}
-use lib.Dec.{eqb}
 use lib.ListN.{length, getD}
 use Rattle.journal.specs.declared.text.Text.{Text}
 use Rattle.journal.specs.Texts.{written}
-
--- What one mark adds to the count of those that stand.
-abbrev pub oneOf : ℕ → ℕ
-oneOf a = cond (eqb a 1) 1 0
 
 -- r is t with the bytes w after its own, and past those the bytes of t.
 pub record Puts (t : Text) (w : List ℕ) (r : Text) : Type 0 where

@@ -10,7 +10,7 @@ use Rattle.journal.proofs.lines.end_line.Statement.{statement}
 use Rattle.journal.proofs.lines.end_line.Tie as tie
 use Rattle.journal.proofs.lines.end_line.Reads as reads
 use Rattle.journal.proofs.lines.end_line.Lts as lts
-use Rattle.journal.proofs.lines.standing.Reads as standing-reads
+use Rattle.marks.proofs.standing.standing.Reads as standing-reads
 use Rattle.journal.proofs.text.Text.new.Reads as new-reads
 use Rattle.journal.proofs.text.Text.push.Reads as push-reads
 use Rattle.journal.proofs.text.put.Reads as put-reads
