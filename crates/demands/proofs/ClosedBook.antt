@@ -7,16 +7,15 @@ use mathlib.Core.Logic.{_↔_}
 use native.Mathlib.Omega.{arith}
 use native.Mathlib.Decide.{decLt}
 use lib.ListN.{length}
-use Rattle.sorts.specs.declared.Row.{Row}
 use Rattle.sorts.specs.declared.Status.{Status}
 use Rattle.sorts.specs.declared.Status.the-variants.{Trusted, Issued}
 use Rattle.sorts.specs.Flags.{StatusForm, flagPlace}
 use Rattle.sorts.proofs.Flags.{place-from}
-use Rattle.sorts.specs.Numbers.{saidMark}
 use Rattle.rows.proofs.Shown.{Shown, form-shown}
 use Rattle.rules.specs.Rules as rules
-use Rattle.rules.specs.Rules.{Met, granted, Values, ClosedUnder, Set, Closed}
+use Rattle.rules.specs.Rules.{Set, Closed}
 use Rattle.rules.specs.Standing.{In, standing}
+use Rattle.rules.proofs.Ground.{closed-fewer}
 use Rattle.rules.proofs.Standing.{standing-in, standing-out}
 use Rattle.book.specs.declared.Book.{Book}
 use Rattle.book.specs.Machine.{State, stands}
@@ -24,33 +23,6 @@ use Rattle.book.specs.Closed.{grantAt, rowAt, StandsAs, ClosedSet}
 use Rattle.book.specs.Books.{BookForm, Shows, bit}
 use Rattle.book.proofs.Forms.{table-rows}
 use Rattle.demands.proofs.RowBack.{shown-row}
-
--- a set closed under licences and trusted grants is closed under fewer of them, with the same rows
-pub closed-fewer : (row row′ : ℕ → Row) (Lic Lic′ : ℕ → ℕ → Type 0) (Tr Tr′ : ℕ → Type 0) (S : ℕ → Type 0) →
-    ((g p : ℕ) → g < 64 → p < 16 → Lic′ p g → Lic p g × (row g ≡ row′ g)) → ((g : ℕ) → g < 64 → Tr′ g → Tr g × (row g ≡ row′ g)) →
-    ClosedUnder row Lic Tr S → ClosedUnder row′ Lic′ Tr′ S
-closed-fewer row row′ Lic Lic′ Tr Tr′ S lic tr c = record {
-  saying = λ g x y z p v l s h.
-      let q = lic g p (v .grant) l s in
-      subst (λ (r : Row). S (saidMark p (granted r x y z))) (q .1) (c .saying g x y z p (values g x y z (q .1) v) l (q .0) (met g x y z (q .1) h));
-  trust = λ g x y z v s h.
-      let q = tr g (v .grant) s in
-      subst (λ (r : Row). S (granted r x y z)) (q .1) (c .trust g x y z (values g x y z (q .1) v) (q .0) (met g x y z (q .1) h));
-  authority = λ g x y z p v l s i h.
-      let q = lic g p (v .grant) l s in
-      subst (λ (r : Row). S (granted r x y z)) (q .1) (c .authority g x y z p (values g x y z (q .1) v) l (q .0) i (met g x y z (q .1) h));
-}
-  where
-    values : (g x y z : ℕ) → row g ≡ row′ g → Values row′ g x y z → Values row g x y z
-    values g x y z e v = record {
-      grant = v .grant;
-      first = subst (λ (r : Row). x < rules.firstValues (r .prins)) (sym e) (v .first);
-      second = subst (λ (r : Row). y < rules.secondValues (r .prins)) (sym e) (v .second);
-      resource = subst (λ (r : Row). z < rules.resourceValues (r .res)) (sym e) (v .resource);
-    }
-
-    met : (g x y z : ℕ) → row g ≡ row′ g → Met S (row′ g) x y z → Met S (row g) x y z
-    met g x y z e h = subst (λ (r : Row). Met S r x y z) (sym e) h
 
 pub bit-set : (c : Bool) → (bit c ≡ 0 → ⊥) → c ≡ true
 bit-set true d = refl

@@ -21,7 +21,8 @@ use Rattle.rules.specs.Rules.{Set, Closed}
 use Rattle.book.specs.Machine.{Entry, State, member, stands}
 use Rattle.book.specs.Closed.{grantAt, rowAt, StandsAs, ClosedSet}
 use Rattle.book.specs.Books.{bit}
-use Rattle.demands.proofs.ClosedBook.{closed-fewer, bit-set}
+use Rattle.rules.proofs.Ground.{closed-fewer}
+use Rattle.demands.proofs.ClosedBook.{bit-set}
 
 -- f at each number below n
 abbrev pub firsts : (ℕ → ℕ) → ℕ → List ℕ
