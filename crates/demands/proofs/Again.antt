@@ -19,27 +19,29 @@ use Rattle.book.specs.declared.Book.{Book}
 use Rattle.book.specs.declared.Answer.the-variants.{Changed}
 use Rattle.book.specs.declared.Answered.{Answered}
 use Rattle.book.specs.Machine.{State, Verdict, Step, changes, refuse, act, acted, step, insert, stands}
-use Rattle.marks.specs.Counts.{gains, countsOf}
+use Rattle.marks.specs.Counts.{Statements, truths, sayings, gains, marksOf, changeOf, countsOf}
 use Rattle.book.specs.Books.{Shows}
 use Rattle.book.specs.Calls.{answerOf, Called}
-use Rattle.demands.proofs.Balance.{none-gained}
+use Rattle.demands.specs.Worth.{unchanged, noCounts}
+use Rattle.demands.proofs.Balance.{none-gained, kind-bits}
 use Rattle.demands.proofs.ClosedBook.{shown}
 use Rattle.demands.proofs.Reached.{Reached, fol, reached-after}
 use Rattle.demands.proofs.Unique.{same-book}
 
 module _ {b : Book} {m s : List ℕ} {r : Answered} {n : List ℕ} {M : State} (R : Reached b m M) (C : Called b m s r n) where
   idle : step M s .says ≡ changes → step M s .next ≡ M →
-      (r .book ≡ b) × (n ≡ m) × (r .answer ≡ Changed (record { gained = 0; lost = 0; net = pos 0 }))
-  unfolding answerOf countsOf
+      (r .book ≡ b) × (n ≡ m) × (r .answer ≡ Changed noCounts)
+  unfolding answerOf countsOf changeOf
   idle e h =
       let F = fol R C in
       let book : r .book ≡ b = same-book (F .form) (R .form) (subst (Shows (r .book)) h (F .shows)) (R .shows) in
       let marks : n ≡ m = reached-after R C .stands ∙ ap (λ (x : Book). standing (x .table .rows) (x .flags)) book ∙ sym (R .stands) in
-      let z : gains m m ≡ 0 = none-gained m m (R .form .markBits) (R .form .markBits) (λ i x. x) in (
+      let z : (k : Statements) → gains (marksOf k m) (marksOf k m) ≡ 0 = λ k. none-gained (marksOf k m) (marksOf k m) (kind-bits k m (R .form .markBits)) (kind-bits k m (R .form .markBits)) (λ i x. x) in
+      let same : (k : Statements) → changeOf (marksOf k m) (marksOf k m) ≡ unchanged = λ k i. record { gained = z k i; lost = z k i; net = pos (z k i) -ℤ pos (z k i) } in (
         book,
         marks,
         F .answer ∙ ap (λ (v : Verdict). answerOf v m n) e ∙ ap (λ (l : List ℕ). Changed (countsOf m l)) marks ∙
-            (λ i. Changed (record { gained = z i; lost = z i; net = pos (z i) -ℤ pos (z i) })),
+            (λ i. Changed (record { truths = same truths i; sayings = same sayings i })),
       )
 
   room : fits (M .N) ≡ true
@@ -49,7 +51,7 @@ module _ {b : Book} {m s : List ℕ} {r : Answered} {n : List ℕ} {M : State} (
   known g = numbered-known (shown b m M (R .form) (R .shows)) g
 
   pub enter-again : (by : Status) (g : Grant) (k : ℕ) → readRecord s ≡ got (enter by g) k → stands M by g ≡ true →
-      (r .book ≡ b) × (n ≡ m) × (r .answer ≡ Changed (record { gained = 0; lost = 0; net = pos 0 }))
+      (r .book ≡ b) × (n ≡ m) × (r .answer ≡ Changed noCounts)
   unfolding insert step act
   enter-again by g k e t = idle (ap (λ (x : Step). x .says) all) (ap (λ (x : Step). x .next) all)
     where

@@ -20,8 +20,8 @@ use Rattle.book.specs.declared.Answer.{Answer}
 use Rattle.book.specs.declared.Answer.the-variants.{Permitted, NotPermitted, Changed, Refused}
 use Rattle.book.specs.declared.Answered.{Answered}
 use Rattle.book.specs.Machine.{State, Step, Verdict, changes, asks, refuses, refuse, act, acted, step, stands}
-use Rattle.marks.specs.Counts.{countsOf}
-use Rattle.demands.specs.Worth.{worth}
+use Rattle.marks.specs.Counts.{Statements, truths, sayings, changeOf, countsOf}
+use Rattle.demands.specs.Worth.{worth, reported}
 use Rattle.book.specs.Books.{BookForm}
 use Rattle.book.specs.Calls.{answerOf, marksAfter, Follows, Called}
 use Rattle.demands.specs.Demands.{Turned, Answers, Demand1}
@@ -70,18 +70,25 @@ module _ (M : State) (k : ℕ) where
 -- what the answer says, by the verdict
 
 abbrev Net : Answer → Type 0
-Net a = worth a .net ≡ pos (worth a .gained) -ℤ pos (worth a .lost)
+Net a = (k : Statements) → reported k a .net ≡ pos (reported k a .gained) -ℤ pos (reported k a .lost)
+
+refused-net : (j : ℕ) → Net (Refused j)
+refused-net j truths = refl
+refused-net j sayings = refl
 
 module _ (m n : List ℕ) where
   answer-net : (v : Verdict) → Net (answerOf v m n)
-  unfolding answerOf countsOf
-  answer-net changes = refl
-  answer-net (asks c) = go (eqb (getD m c 0) 1)
+  unfolding answerOf countsOf changeOf
+  answer-net changes truths = refl
+  answer-net changes sayings = refl
+  answer-net (asks c) k = go k (eqb (getD m c 0) 1)
     where
-      go : (b : Bool) → Net (cond b Permitted NotPermitted)
-      go true = refl
-      go false = refl
-  answer-net (refuses k) = refl
+      go : (k : Statements) (b : Bool) → reported k (cond b Permitted NotPermitted) .net ≡ pos (reported k (cond b Permitted NotPermitted) .gained) -ℤ pos (reported k (cond b Permitted NotPermitted) .lost)
+      go truths true = refl
+      go truths false = refl
+      go sayings true = refl
+      go sayings false = refl
+  answer-net (refuses j) k = refused-net j k
 
   answer-refused : (v : Verdict) (k : ℕ) → (answerOf v m n ≡ Refused k) ↔ (v ≡ refuses k)
   unfolding answerOf
@@ -168,4 +175,4 @@ demand-1 b m s r n C = record {
 
     net-by : BookForm b m ⊎ (BookForm b m → ⊥) → Net (r .answer)
     net-by (inl f) = let w = shows-some b m f in subst Net (sym (C .formed f (w .0) (w .1) .answer)) (answer-net m n (step (w .0) s .says))
-    net-by (inr d) = subst Net (sym (ap (λ (x : Answered). x .answer) (C .unformed d .0))) refl
+    net-by (inr d) = subst Net (sym (ap (λ (x : Answered). x .answer) (C .unformed d .0))) (refused-net 9)

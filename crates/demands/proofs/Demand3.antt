@@ -3,6 +3,7 @@ use Prim.Native.Nat.{ℕ, _+_}
 use mathlib.Core.Path.{_≡_, refl, sym, subst}
 use mathlib.Core.List.{List}
 use native.Mathlib.Omega.{arith}
+use lib.ListN.{replicate}
 use Rattle.sorts.specs.Numbers.{allMarks}
 use Rattle.ranges.specs.Bytes.{Outcome, got, refused}
 use Rattle.reader.specs.Records.{Record, enter, remove, query, readRecord}
@@ -10,12 +11,12 @@ use Rattle.rules.specs.Standing.{In, standing}
 use Rattle.book.specs.declared.Book.{Book}
 use Rattle.book.specs.declared.Answered.{Answered}
 use Rattle.book.specs.Machine.{State, start, step}
-use Rattle.marks.specs.Counts.{ones}
+use Rattle.marks.specs.Counts.{Statements, truths, sayings, ones, marksOf}
 use Rattle.book.specs.Calls.{Called}
 use Rattle.book.specs.Chains.{freshBook, freshMarks, Call, Chain, none, then, records, runs}
 use Rattle.demands.specs.Worth.{allGains, allLosses}
 use Rattle.demands.specs.Demands.{Agrees, NoLoss, NoGain, OneWay, AllOneWay, Demand3}
-use Rattle.demands.proofs.Balance.{ones-none}
+use Rattle.demands.proofs.Balance.{ones-none, ones-kinds}
 use Rattle.demands.proofs.ClosedBook.{stands-in}
 use Rattle.demands.proofs.Moving.{Moved, moved, Still}
 use Rattle.demands.proofs.Reached.{Reached, fresh-reached, fol, reached-after, call-balance, no-loss, no-gain}
@@ -24,7 +25,7 @@ use Rattle.demands.proofs.Reached.{Reached, fresh-reached, fol, reached
 pub record After (M : State) (m₀ : List ℕ) (cs : List Call) (b : Book) (m : List ℕ) : Type 0 where
   pub reached : Reached b m (runs M (records cs))
   pub answers : Agrees M cs
-  pub sums : allGains cs + ones m₀ ≡ allLosses cs + ones m
+  pub sums : (k : Statements) → allGains k cs + ones (marksOf k m₀) ≡ allLosses k cs + ones (marksOf k m)
   pub oneWay : AllOneWay cs
 
 module _ {b : Book} {m s : List ℕ} {r : Answered} {n : List ℕ} {M : State} (R : Reached b m M) (C : Called b m s r n) where
@@ -44,17 +45,20 @@ module _ {b : Book} {m s : List ℕ} {r : Answered} {n : List ℕ} {M : State} (
 
 pub after : {b b′ : Book} {m m′ : List ℕ} {cs : List Call} {M : State} → Reached b m M → Chain b m cs b′ m′ → After M m cs b′ m′
 unfolding runs records Agrees AllOneWay allGains allLosses
-after {m = m} R none = record { reached = R; answers = tt; sums = refl; oneWay = tt }
+after {m = m} R none = record { reached = R; answers = tt; sums = λ k. refl; oneWay = tt }
 after {b} {b′} {m} {m′} {M = M} R (then s r n C K) =
     let A = after (reached-after R C) K in
-    let x = A .sums in
-    let y = call-balance R C in
     record {
       reached = A .reached;
       answers = (fol R C .answer, fol R C .used, A .answers);
-      sums = omega arith;
+      sums = λ k. let x = A .sums k in let y = call-balance R C k in omega arith;
       oneWay = (one-way R C (readRecord s) refl (moved M (readRecord s)), A .oneWay);
     }
+
+-- no mark of either kind stands in a fresh book
+none-fresh : (k : Statements) → ones (marksOf k (replicate allMarks 0)) ≡ 0
+none-fresh truths = let e = ones-kinds (replicate allMarks 0) in let z = ones-none allMarks in omega arith
+none-fresh sayings = let e = ones-kinds (replicate allMarks 0) in let z = ones-none allMarks in omega arith
 
 -- Marks, rows, flags and answers are what the plain machine, fed only the records' bytes, and the closed sets say; gains less
 -- losses equal the marks standing; no enter or issue loses, no strike or withdrawal gains.
@@ -63,8 +67,6 @@ unfolding freshMarks
 demand-3 cs b m K =
     let A = after fresh-reached K in
     let R = A .reached in
-    let x = A .sums in
-    let y = ones-none allMarks in
     record {
       marks = λ n.
           let i = stands-in b m (runs start (records cs)) (R .form) (R .shows) n in
@@ -72,6 +74,11 @@ demand-3 cs b m K =
       form = R .form;
       shows = R .shows;
       answers = A .answers;
-      sums = omega arith;
+      sums = λ k. let x = A .sums k in let y = none-fresh k in omega arith;
       oneWay = A .oneWay;
     }
+
+-- Document 01's one sum follows: all gains less all losses, truths and sayings together, equal the marks standing.
+pub sums-total : (cs : List Call) (b : Book) (m : List ℕ) → Demand3 cs b m →
+    allGains truths cs + allGains sayings cs ≡ (allLosses truths cs + allLosses sayings cs) + ones m
+sums-total cs b m D = let t = D .sums truths in let s = D .sums sayings in let e = ones-kinds m in omega arith

@@ -9,11 +9,11 @@ use native.Mathlib.Omega.{arith}
 use native.Mathlib.Decide.{ℕ-discrete}
 use borrow.Author.Tests.{eqb-true}
 use lib.ListN.{length, getD, set, take, length-set}
-use lib.Seq.{getD-set-same, getD-set-other}
+use lib.Seq.{getD-set-same, getD-set-other, getD-drop}
 use lib.Dec.{eqb}
 use Rattle.sorts.specs.declared.Status.{Status}
 use Rattle.sorts.specs.declared.Status.the-variants.{Trusted, Issued}
-use Rattle.sorts.specs.Numbers.{saidMark, allMarks}
+use Rattle.sorts.specs.Numbers.{saidMark, conclusions, allMarks}
 use Rattle.sorts.specs.Flags.{flagOf}
 use Rattle.rows.specs.Written.{Grant, written, sameBytes, same}
 use Rattle.rows.specs.Numbering.{place, has, add, number}
@@ -29,12 +29,12 @@ use Rattle.book.specs.declared.Book.{Book}
 use Rattle.book.specs.declared.Answer.the-variants.{Permitted, NotPermitted}
 use Rattle.book.specs.Machine.{State, Entry, Step, asks, start, member, insert, delete, act, step}
 use Rattle.book.specs.Closed.{grantAt, rowAt, StandsAs, ClosedSet, Stands, Lacking}
-use Rattle.marks.specs.Counts.{ones}
+use Rattle.marks.specs.Counts.{truths, sayings, ones, marksOf}
 use Rattle.book.proofs.Sets.{member-cases, member-none}
 use Rattle.book.specs.Chains.{freshBook, freshMarks, Call, Chain, none, then, records, runs}
 use Rattle.demands.specs.Worth.{allGains, allLosses}
 use Rattle.demands.specs.Demands.{NoLoss, NoGain, OneWay, AllOneWay}
-use Rattle.demands.proofs.Balance.{ones-none}
+use Rattle.demands.proofs.Balance.{ones-none, ones-zero, ones-kinds, kind-bits}
 use Rattle.demands.proofs.Existence.{chain-some}
 use Rattle.demands.proofs.Reached.{fresh-form}
 use Rattle.demands.proofs.Demand2.{demand-2}
@@ -223,16 +223,34 @@ fresh-ones : ones freshMarks ≡ 0
 unfolding freshMarks
 fresh-ones = ones-none allMarks
 
--- THE SUM: gains less losses are the two marks that stand at the end.
-pub journal-sums : (cs : List Call) (b : Book) (m : List ℕ) → Chain freshBook freshMarks cs b m → records cs ≡ journal → allGains cs ≡ allLosses cs + 2
+-- the two marks that stand at the end are truths
+module _ (m : List ℕ) (bits : Bits m) (all : ones m ≡ 2) (is : (n : ℕ) → In m n → EndMarks n) where
+  no-sayings : ones (marksOf sayings m) ≡ 0
+  no-sayings = ones-zero (marksOf sayings m) (kind-bits sayings m bits) (λ i h. low i (is (conclusions + i) (sym (getD-drop conclusions m i 0) ∙ h)))
+    where
+      low : (i : ℕ) → EndMarks (conclusions + i) → ⊥
+      low i (inl e) = omega arith
+      low i (inr e) = omega arith
+
+  two-truths : ones (marksOf truths m) ≡ 2
+  two-truths = let e = ones-kinds m in let z = no-sayings in omega arith
+
+-- THE SUMS: gains less losses of truths are the two marks that stand at the end; those of sayings are none.
+pub journal-sums : (cs : List Call) (b : Book) (m : List ℕ) → Chain freshBook freshMarks cs b m → records cs ≡ journal →
+    (allGains truths cs ≡ allLosses truths cs + 2) × (allGains sayings cs ≡ allLosses sayings cs)
 journal-sums cs b m K e =
     let D = demand-3 cs b m K in
     let M : runs start (records cs) ≡ journal-end = ap (runs start) e ∙ journal-runs in
+    let is : (n : ℕ) → In m n → EndMarks n = λ n h. subst (λ (x : State). Stands x n) M (D .marks n .0 h) EndMarks end-closed in
     let two = two-marks freshMarks (fresh-form .marks) fresh-blank m (D .form .marks) (D .form .markBits)
-    (λ n. (λ h. subst (λ (x : State). Stands x n) M (D .marks n .0 h) EndMarks end-closed, λ h. D .marks n .1 (subst (λ (x : State). Stands x n) (sym M) (end-stands n h)))) in
+    (λ n. (is n, λ h. D .marks n .1 (subst (λ (x : State). Stands x n) (sym M) (end-stands n h)))) in
     let z = fresh-ones in
-    let s = D .sums in
-    omega arith
+    let all : ones m ≡ 2 = omega arith in
+    let t = two-truths m (D .form .markBits) all is in
+    let s = no-sayings m (D .form .markBits) all is in
+    let x = D .sums truths in
+    let y = D .sums sayings in
+    (omega arith, omega arith)
 
 -- THE ONE WAY: the second record, LI, loses nothing, and the sixth, WD, gains nothing.
 

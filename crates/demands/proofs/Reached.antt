@@ -15,20 +15,20 @@ use Rattle.rows.proofs.Shown.{blank-shown, shown-form}
 use Rattle.rows.proofs.Bytes.{no-true}
 use Rattle.reader.specs.Records.{readRecord}
 use Rattle.rules.specs.Rules.{Closed}
-use Rattle.rules.specs.Standing.{In, standing}
+use Rattle.rules.specs.Standing.{In, Above, standing}
 use Rattle.rules.proofs.Standing.{standing-in, standing-length, standing-bits}
 use Rattle.rules.proofs.Saturation.{same-marks, zeroes-bits, zeroes-none}
 use Rattle.book.specs.declared.Book.{Book}
 use Rattle.book.specs.declared.Answer.{Answer}
-use Rattle.book.specs.declared.Answer.the-variants.{Permitted, NotPermitted}
+use Rattle.book.specs.declared.Answer.the-variants.{Permitted, NotPermitted, Refused}
 use Rattle.book.specs.declared.Answered.{Answered}
 use Rattle.book.specs.Machine.{State, Verdict, changes, asks, refuses, start, step, member}
-use Rattle.marks.specs.Counts.{gains, ones, countsOf}
-use Rattle.demands.specs.Worth.{worth}
+use Rattle.marks.specs.Counts.{Statements, truths, sayings, gains, ones, marksOf, changeOf, countsOf, changeIn}
+use Rattle.demands.specs.Worth.{reported}
 use Rattle.book.specs.Books.{BookForm, Shows}
 use Rattle.book.specs.Calls.{answerOf, marksAfter, Follows, Called}
 use Rattle.book.specs.Chains.{freshBook, freshMarks}
-use Rattle.demands.proofs.Balance.{balance, none-gained}
+use Rattle.demands.proofs.Balance.{balance, none-gained, kind-bits, kind-length, kind-above}
 use Rattle.book.proofs.Forms.{table-rows}
 use Rattle.demands.proofs.Moving.{asks-still, Up, Down}
 use Rattle.demands.proofs.Standings.{up-stands, down-stands, still-stands}
@@ -81,6 +81,24 @@ fresh-stands =
 pub fresh-reached : Reached freshBook freshMarks start
 fresh-reached = record { form = fresh-form; shows = fresh-shows; stands = fresh-stands }
 
+-- what is reported: of a change, the gains and losses of each kind; of a query and of a refusal, nothing
+
+counts-are : (k : Statements) (m n : List ℕ) →
+    (changeIn k (countsOf m n) .gained ≡ gains (marksOf k m) (marksOf k n)) × (changeIn k (countsOf m n) .lost ≡ gains (marksOf k n) (marksOf k m))
+unfolding countsOf changeOf
+counts-are truths m n = (refl, refl)
+counts-are sayings m n = (refl, refl)
+
+uncounted-no : (k : Statements) (b : Bool) → (reported k (cond b Permitted NotPermitted) .gained ≡ 0) × (reported k (cond b Permitted NotPermitted) .lost ≡ 0)
+uncounted-no truths true = (refl, refl)
+uncounted-no truths false = (refl, refl)
+uncounted-no sayings true = (refl, refl)
+uncounted-no sayings false = (refl, refl)
+
+refused-no : (k : Statements) (j : ℕ) → (reported k (Refused j) .gained ≡ 0) × (reported k (Refused j) .lost ≡ 0)
+refused-no truths j = (refl, refl)
+refused-no sayings j = (refl, refl)
+
 -- one call more
 
 module _ {b : Book} {m s : List ℕ} {r : Answered} {n : List ℕ} {M : State} (R : Reached b m M) (C : Called b m s r n) where
@@ -102,53 +120,48 @@ module _ {b : Book} {m s : List ℕ} {r : Answered} {n : List ℕ} {M : State} (
   same-length : length m ≡ length n
   same-length = R .form .marks ∙ sym (fol .form .marks)
 
-  -- the answer's counts balance the marks
-  answer-balance : (v : Verdict) → n ≡ marksAfter v (r .book) m → worth (answerOf v m n) .gained + ones m ≡ worth (answerOf v m n) .lost + ones n
-  unfolding marksAfter answerOf countsOf
-  answer-balance changes h = let e = balance m n same-length (R .form .markBits) (fol .form .markBits) in omega arith
-  answer-balance (asks c) h = go (eqb (getD m c 0) 1)
-    where
-      go : (b : Bool) → worth (cond b Permitted NotPermitted) .gained + ones m ≡ worth (cond b Permitted NotPermitted) .lost + ones n
-      go true = let e = ap ones h in omega arith
-      go false = let e = ap ones h in omega arith
-  answer-balance (refuses k) h = let e = ap ones h in omega arith
+  -- the answer's counts balance the marks of each kind
+  answer-balance : (k : Statements) (v : Verdict) → n ≡ marksAfter v (r .book) m →
+      reported k (answerOf v m n) .gained + ones (marksOf k m) ≡ reported k (answerOf v m n) .lost + ones (marksOf k n)
+  unfolding marksAfter answerOf
+  answer-balance k changes h =
+      let e = balance (marksOf k m) (marksOf k n) (kind-length k m n same-length) (kind-bits k m (R .form .markBits)) (kind-bits k n (fol .form .markBits)) in
+      let c = counts-are k m n in
+      omega (arith, e, c .0, c .1)
+  answer-balance k (asks c) h = omega (arith, ap (λ (l : List ℕ). ones (marksOf k l)) h, uncounted-no k (eqb (getD m c 0) 1) .0, uncounted-no k (eqb (getD m c 0) 1) .1)
+  answer-balance k (refuses j) h = omega (arith, ap (λ (l : List ℕ). ones (marksOf k l)) h, refused-no k j .0, refused-no k j .1)
 
-  pub call-balance : worth (r .answer) .gained + ones m ≡ worth (r .answer) .lost + ones n
-  call-balance =
-      ap (λ (a : Answer). worth a .gained + ones m) (fol .answer) ∙ answer-balance (step M s .says) (fol .marks) ∙ ap (λ (a : Answer). worth a .lost + ones n) (sym (fol .answer))
+  pub call-balance : (k : Statements) → reported k (r .answer) .gained + ones (marksOf k m) ≡ reported k (r .answer) .lost + ones (marksOf k n)
+  call-balance k =
+      ap (λ (a : Answer). reported k a .gained + ones (marksOf k m)) (fol .answer) ∙ answer-balance k (step M s .says) (fol .marks) ∙
+      ap (λ (a : Answer). reported k a .lost + ones (marksOf k n)) (sym (fol .answer))
 
   -- what the answer reports lost or gained is so
-  answer-lost : (v : Verdict) → gains n m ≡ 0 → worth (answerOf v m n) .lost ≡ 0
-  unfolding answerOf countsOf
-  answer-lost changes h = h
-  answer-lost (asks c) h = go (eqb (getD m c 0) 1)
-    where
-      go : (b : Bool) → worth (cond b Permitted NotPermitted) .lost ≡ 0
-      go true = refl
-      go false = refl
-  answer-lost (refuses k) h = refl
+  answer-lost : (k : Statements) (v : Verdict) → gains (marksOf k n) (marksOf k m) ≡ 0 → reported k (answerOf v m n) .lost ≡ 0
+  unfolding answerOf
+  answer-lost k changes h = counts-are k m n .1 ∙ h
+  answer-lost k (asks c) h = uncounted-no k (eqb (getD m c 0) 1) .1
+  answer-lost k (refuses j) h = refused-no k j .1
 
-  answer-gained : (v : Verdict) → gains m n ≡ 0 → worth (answerOf v m n) .gained ≡ 0
-  unfolding answerOf countsOf
-  answer-gained changes h = h
-  answer-gained (asks c) h = go (eqb (getD m c 0) 1)
-    where
-      go : (b : Bool) → worth (cond b Permitted NotPermitted) .gained ≡ 0
-      go true = refl
-      go false = refl
-  answer-gained (refuses k) h = refl
+  answer-gained : (k : Statements) (v : Verdict) → gains (marksOf k m) (marksOf k n) ≡ 0 → reported k (answerOf v m n) .gained ≡ 0
+  unfolding answerOf
+  answer-gained k changes h = counts-are k m n .0 ∙ h
+  answer-gained k (asks c) h = uncounted-no k (eqb (getD m c 0) 1) .0
+  answer-gained k (refuses j) h = refused-no k j .0
 
   stands′ : n ≡ standing (r .book .table .rows) (r .book .flags)
   stands′ = reached-after .stands
 
-  pub no-loss : Up M (step M s .next) → (worth (r .answer) .lost ≡ 0) × (gains n m ≡ 0)
-  no-loss u =
+  pub no-loss : Up M (step M s .next) → (k : Statements) → (reported k (r .answer) .lost ≡ 0) × (gains (marksOf k n) (marksOf k m) ≡ 0)
+  no-loss u k =
       let a = up-stands (R .form) (R .shows) (fol .form) (fol .shows) (u .ext) (u .grows) in
-      let g : gains n m ≡ 0 = none-gained n m (fol .form .markBits) (R .form .markBits) (λ i h. subst (λ (x : List ℕ). In x i) (sym stands′) (a i (subst (λ (x : List ℕ). In x i) (R .stands) h))) in
-      (ap (λ (a : Answer). worth a .lost) (fol .answer) ∙ answer-lost (step M s .says) g, g)
+      let kept : Above m (In n) = λ i h. subst (λ (x : List ℕ). In x i) (sym stands′) (a i (subst (λ (x : List ℕ). In x i) (R .stands) h)) in
+      let g = none-gained (marksOf k n) (marksOf k m) (kind-bits k n (fol .form .markBits)) (kind-bits k m (R .form .markBits)) (kind-above k n m kept) in
+      (ap (λ (a : Answer). reported k a .lost) (fol .answer) ∙ answer-lost k (step M s .says) g, g)
 
-  pub no-gain : Down M (step M s .next) → (worth (r .answer) .gained ≡ 0) × (gains m n ≡ 0)
-  no-gain d =
+  pub no-gain : Down M (step M s .next) → (k : Statements) → (reported k (r .answer) .gained ≡ 0) × (gains (marksOf k m) (marksOf k n) ≡ 0)
+  no-gain d k =
       let a = down-stands (R .form) (R .shows) (fol .form) (fol .shows) (d .ext) (d .shrinks) in
-      let g : gains m n ≡ 0 = none-gained m n (R .form .markBits) (fol .form .markBits) (λ i h. subst (λ (x : List ℕ). In x i) (sym (R .stands)) (a i (subst (λ (x : List ℕ). In x i) stands′ h))) in
-      (ap (λ (a : Answer). worth a .gained) (fol .answer) ∙ answer-gained (step M s .says) g, g)
+      let kept : Above n (In m) = λ i h. subst (λ (x : List ℕ). In x i) (sym (R .stands)) (a i (subst (λ (x : List ℕ). In x i) stands′ h)) in
+      let g = none-gained (marksOf k m) (marksOf k n) (kind-bits k m (R .form .markBits)) (kind-bits k n (fol .form .markBits)) (kind-above k m n kept) in
+      (ap (λ (a : Answer). reported k a .gained) (fol .answer) ∙ answer-gained k (step M s .says) g, g)

@@ -18,11 +18,11 @@ use Rattle.marks.specs.declared.Counts.{Counts}
 use Rattle.book.specs.declared.Answered.{Answered}
 use Rattle.book.specs.Machine.{State, changes, asks, stands, start, step}
 use Rattle.book.specs.Closed.{Stands, Lacking}
-use Rattle.marks.specs.Counts.{gains, ones, countsOf}
+use Rattle.marks.specs.Counts.{Statements, gains, ones, marksOf, countsOf}
 use Rattle.book.specs.Books.{BookForm, Shows}
 use Rattle.book.specs.Calls.{answerOf}
 use Rattle.book.specs.Chains.{Call, records, runs}
-use Rattle.demands.specs.Worth.{worth, allGains, allLosses}
+use Rattle.demands.specs.Worth.{worth, reported, allGains, allLosses}
 
 -- DEMAND 2, of a query that asks for the conclusion c and was answered a, where the machine is then in the state M: "permitted
 -- exactly when each closed set contains the conclusion, not permitted exactly when some closed set lacks it".
@@ -38,12 +38,12 @@ Agrees M (c ∷ cs) =
     (c .gave .answer ≡ answerOf (step M (c .record′) .says) (c .marks) (c .left)) × (c .gave .used ≡ step M (c .record′) .used) ×
     Agrees (step M (c .record′) .next) cs
 
--- A call that lost no mark and reports no loss; one that gained none and reports no gain.
+-- A call that lost no mark and reports no loss, of either kind; one that gained none and reports no gain.
 abbrev pub NoLoss : Call → Type 0
-NoLoss c = (worth (c .gave .answer) .lost ≡ 0) × (gains (c .left) (c .marks) ≡ 0)
+NoLoss c = (k : Statements) → (reported k (c .gave .answer) .lost ≡ 0) × (gains (marksOf k (c .left)) (marksOf k (c .marks)) ≡ 0)
 
 abbrev pub NoGain : Call → Type 0
-NoGain c = (worth (c .gave .answer) .gained ≡ 0) × (gains (c .marks) (c .left) ≡ 0)
+NoGain c = (k : Statements) → (reported k (c .gave .answer) .gained ≡ 0) × (gains (marksOf k (c .marks)) (marksOf k (c .left)) ≡ 0)
 
 -- "no enter or issue loses, no strike or withdrawal gains", whether accepted or refused; a query and a record with a fault do
 -- neither.
@@ -61,13 +61,14 @@ AllOneWay (c ∷ cs) = OneWay (readRecord (c .record′)) c × AllOneWay cs
 -- "A statement .. has mark 1 exactly when it is in every set closed under the three rules with T as the trusted grants, L as
 -- the licences, and a grant's place in N, from 0, as its number. The rows below the count, written out, are N in order, and the
 -- flags show T and L. Each call was accepted where the machine accepted its record, and refused with the machine's number
--- where it refused"; "gains less losses equal the marks standing; no enter or issue loses, no strike or withdrawal gains".
+-- where it refused"; "gains less losses equal the marks standing; no enter or issue loses, no strike or withdrawal gains";
+-- document 02, 1: "over any list truths and sayings each balance".
 pub record Demand3 (cs : List Call) (b : Book) (m : List ℕ) : Type 1 where
   pub marks : (n : ℕ) → (getD m n 0 ≡ 1) ↔ Stands (runs start (records cs)) n
   pub form : BookForm b m
   pub shows : Shows b (runs start (records cs))
   pub answers : Agrees start cs
-  pub sums : allGains cs ≡ allLosses cs + ones m
+  pub sums : (k : Statements) → allGains k cs ≡ allLosses k cs + ones (marksOf k m)
   pub oneWay : AllOneWay cs
 
 -- The conditions under which a record is turned back where the book is in form and shows M, by what was read: the fault's own
@@ -91,11 +92,11 @@ pub record Answers (M : State) (b : Book) (m s : List ℕ) (r : Answered) (n : L
 -- DEMAND 1, of every lent book, marks and bytes: "Every record of bytes and every lent book gets an answer: permitted, not
 -- permitted, a change with its counts, or one of the numbered refusals, each under its condition and no other. A refused record
 -- leaves every part of the book unchanged." 9: "the lent book is out of form", exactly then; 8 is never said. Every book in form
--- shows some state. The net "is gained less lost".
+-- shows some state. Each net "is gained less lost".
 pub record Demand1 (b : Book) (m s : List ℕ) (r : Answered) (n : List ℕ) : Type 0 where
   pub unformed : (BookForm b m → ⊥) → (r ≡ record { book = b; answer = Refused 9; used = 0 }) × (n ≡ m)
   pub formed : BookForm b m → (M : State) → Shows b M → Answers M b m s r n
   pub shown : BookForm b m → (M : State) × Shows b M
   pub nine : (worth (r .answer) .number ≡ some 9) ↔ (BookForm b m → ⊥)
   pub numbered : (k : ℕ) → worth (r .answer) .number ≡ some k → (1 ≤ k) × (k ≤ 9) × (k ≡ 8 → ⊥)
-  pub net : worth (r .answer) .net ≡ pos (worth (r .answer) .gained) -ℤ pos (worth (r .answer) .lost)
+  pub net : (k : Statements) → reported k (r .answer) .net ≡ pos (reported k (r .answer) .gained) -ℤ pos (reported k (r .answer) .lost)

@@ -2,33 +2,44 @@
 use Prim.Native.Nat.{ℕ, _+_}
 use mathlib.Core.List.{List, [], _∷_}
 use mathlib.Core.Option.{Option, none, some}
-use lib.IntN.{ℤ, pos}
+use lib.IntN.{pos}
+use Rattle.marks.specs.declared.Change.{Change}
+use Rattle.marks.specs.declared.Counts.{Counts}
 use Rattle.book.specs.declared.Answer.{Answer}
 use Rattle.book.specs.declared.Answer.the-variants.{Permitted, NotPermitted, Changed, Refused}
+use Rattle.marks.specs.Counts.{Statements, changeIn}
 use Rattle.book.specs.Chains.{Call}
 
 -- "If an answer is an enum, a definition gives this paper's number and values for each of its cases." The number of a refusal, and
--- the three counts: "QU .. has counts 0", "Every refusal has counts 0".
+-- the counts: of truths and of sayings gained, lost and net. "QU .. has counts 0", "Every refusal has counts 0".
 pub record Worth : Type 0 where
   pub number : Option ℕ
-  pub gained : ℕ
-  pub lost : ℕ
-  pub net : ℤ
+  pub counts : Counts
+
+abbrev pub unchanged : Change
+unchanged = record { gained = 0; lost = 0; net = pos 0 }
+
+abbrev pub noCounts : Counts
+noCounts = record { truths = unchanged; sayings = unchanged }
 
 abbrev pub uncounted : Option ℕ → Worth
-uncounted k = record { number = k; gained = 0; lost = 0; net = pos 0 }
+uncounted k = record { number = k; counts = noCounts }
 
 abbrev pub worth : Answer → Worth
 worth Permitted = uncounted none
 worth NotPermitted = uncounted none
-worth (Changed c) = record { number = none; gained = c .gained; lost = c .lost; net = c .net }
+worth (Changed c) = record { number = none; counts = c }
 worth (Refused k) = uncounted (some k)
 
--- All gains, and all losses, of a list of calls.
-unfoldable pub allGains : List Call → ℕ
-allGains [] = 0
-allGains (c ∷ cs) = worth (c .gave .answer) .gained + allGains cs
+-- What an answer reports of one kind of statement.
+abbrev pub reported : Statements → Answer → Change
+reported k a = changeIn k (worth a .counts)
 
-unfoldable pub allLosses : List Call → ℕ
-allLosses [] = 0
-allLosses (c ∷ cs) = worth (c .gave .answer) .lost + allLosses cs
+-- All gains, and all losses, that a list of calls reports of one kind.
+unfoldable pub allGains : Statements → List Call → ℕ
+allGains k [] = 0
+allGains k (c ∷ cs) = reported k (c .gave .answer) .gained + allGains k cs
+
+unfoldable pub allLosses : Statements → List Call → ℕ
+allLosses k [] = 0
+allLosses k (c ∷ cs) = reported k (c .gave .answer) .lost + allLosses k cs

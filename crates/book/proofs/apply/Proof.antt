@@ -9,7 +9,7 @@ use Rattle.book.proofs.apply.Statement.{statement}
 use Rattle.book.proofs.apply.Tie as tie
 use Rattle.book.proofs.apply.Reads as reads
 use Rattle.book.proofs.apply.Lts as lts
-use Rattle.book.proofs.change.Reads as change-reads
+use Rattle.book.proofs.update.Reads as update-reads
 use Rattle.book.proofs.query.Reads as query-reads
 use Rattle.book.proofs.refuse.Reads as refuse-reads
 use Rattle.book.proofs.remove.Reads as remove-reads
@@ -57,8 +57,8 @@ with-flag-requires : tie.Need-with-flag-requires
 with-flag-requires c κs = rw ((c .flag-place) .ensures) (fits-enter _ _ _ ((c .before .before .before .before .before .before .f4) .given .1) ((c .before .before .before .before .before .before .before .before .before .before .pre) .fits) _ _ ((c .before .before .before .q) .given .1))
 
 -- src/lib.rt:154:17
-change-requires : tie.Need-change-requires
-change-requires c κs = rw ((c .before .with-flag) .ensures) ((c .before .before .before .before .before .before .before .before .before .before .before .before .pre) .next, length-set {A = ℕ} ((c .before .before .before .before .before .before .before .before .before .before .before .before .args) .b .flags) ((c .before .before .flag-place) .result) 1 ∙ (c .before .before .before .before .before .before .before .before .before .before .before .before .pre) .flags, (c .before .before .before .before .before .before .before .before .before .before .before .before .pre) .marks)
+update-requires : tie.Need-update-requires
+update-requires c κs = rw ((c .before .with-flag) .ensures) ((c .before .before .before .before .before .before .before .before .before .before .before .before .pre) .next, length-set {A = ℕ} ((c .before .before .before .before .before .before .before .before .before .before .before .before .args) .b .flags) ((c .before .before .flag-place) .result) 1 ∙ (c .before .before .before .before .before .before .before .before .before .before .before .before .pre) .flags, (c .before .before .before .before .before .before .before .before .before .before .before .before .pre) .marks)
 
 -- src/lib.rt:156:29
 enum-known-q-2 : tie.Need-enum-known-q-2
@@ -102,7 +102,7 @@ same-length c = search needs
 -- src/lib.rt:141:1
 returns-4 : tie.Need-returns-4
 unfolding applied marksApplied
-returns-4 c = (rw ((c .before .before .before .before .before .before .before .before .before .before .before .f4) .given .1, (c .before .before .before .before .before .before .before .before .q) .given .1) ((c .before .before .change) .ensures .0 ∙ rw ((c .before .before .before .before .with-flag) .ensures, (c .before .before .before .before .before .flag-place) .ensures)), rw ((c .before .before .before .before .before .before .before .before .before .before .before .f4) .given .1, (c .before .before .before .before .before .before .before .before .q) .given .1) ((c .before .before .change) .ensures .1 ∙ rw ((c .before .before .before .before .with-flag) .ensures, (c .before .before .before .before .before .flag-place) .ensures)))
+returns-4 c = (rw ((c .before .before .before .before .before .before .before .before .before .before .before .f4) .given .1, (c .before .before .before .before .before .before .before .before .q) .given .1) ((c .before .before .update) .ensures .0 ∙ rw ((c .before .before .before .before .with-flag) .ensures, (c .before .before .before .before .before .flag-place) .ensures)), rw ((c .before .before .before .before .before .before .before .before .before .before .before .f4) .given .1, (c .before .before .before .before .before .before .before .before .q) .given .1) ((c .before .before .update) .ensures .1 ∙ rw ((c .before .before .before .before .with-flag) .ensures, (c .before .before .before .before .before .flag-place) .ensures)))
 
 -- src/lib.rt:141:1
 same-length-2 : tie.Need-same-length-2
@@ -136,7 +136,7 @@ apply-spec =
     enum-known-q
     flag-place-requires
     with-flag-requires
-    change-requires
+    update-requires
     enum-known-q-2
     flag-place-requires-2
     remove-requires
