@@ -7,7 +7,7 @@ use Rattle.rows.specs.Written.{Grant, Concl, perm, issue, issueAny}
 use Rattle.rules.specs.Standing.{All}
 use Rattle.book.specs.Machine.{State, start}
 use Rattle.book.specs.Closed.{Stands}
-use Rattle.worked.specs.Worked.{trust, licence, machine, Accepted, numberIn, Answer, permitted, not-permitted, marks, net, Example}
+use Rattle.worked.specs.Worked.{trust, licence, machine, Accepted, numberIn, Answer, permitted, not-permitted, marks, each, nets, Example}
 use Rattle.worked.specs.Worked.{smart, good, trusted, plain, when, when2, for-grants, P7, P9, table}
 use Rattle.query.specs.Figures.{Said}
 use Rattle.query.specs.Query.{saidWithin, queryWithin}
@@ -28,14 +28,16 @@ tested f [] = []
 tested f (permitted c ∷ l) = f c ∷ tested f l
 tested f (not-permitted c ∷ l) = f c ∷ tested f l
 tested f (marks n ∷ l) = tested f l
-tested f (net es z ∷ l) = tested f l
+tested f (each t s ∷ l) = tested f l
+tested f (nets es y z ∷ l) = tested f l
 
 unfoldable pub lineSays : List Answer → List Bool
 lineSays [] = []
 lineSays (permitted c ∷ l) = true ∷ lineSays l
 lineSays (not-permitted c ∷ l) = false ∷ lineSays l
 lineSays (marks n ∷ l) = lineSays l
-lineSays (net es z ∷ l) = lineSays l
+lineSays (each t s ∷ l) = lineSays l
+lineSays (nets es y z ∷ l) = lineSays l
 
 -- Every record of the examples is accepted, and a query over states answers each conclusion as the line says.
 pub record Answered (query : State → ℕ → Bool) (examples : List Example) : Type 0 where

@@ -1,16 +1,17 @@
 -- What stands, given by a short list of its statements, each in front of those that it follows from: computed tests, and what
 -- they show.
-use mathlib.Core.Path.{_≡_, sym, subst, ap, _∙_}
-use mathlib.Core.Bool.{Bool, true, false, not}
+use mathlib.Core.Path.{_≡_, refl, sym, subst, ap, _∙_}
+use mathlib.Core.Bool.{Bool, true, false, not, cond}
 use mathlib.Core.List.{List, [], _∷_}
 use mathlib.Core.Logic.{_⊎_, inl, inr, ⊎-elim}
-use Prim.Native.Nat.{ℕ, zero, suc, _<_}
+use Prim.Native.Nat.{ℕ, zero, suc, _+_, _<_}
 use native.Mathlib.Nat.{not-suc-le-zero, le-of-suc-le-suc}
 use native.Mathlib.Omega.{arith}
 use lib.Dec.{T, eqb, ltb, eqb→eq, eqb-refl, ltb→lt, T-not}
 use lib.ListN.{length, getD, set, length-set}
-use lib.Seq.{getD-set-same}
-use Rattle.sorts.specs.Numbers.{allMarks}
+use lib.Seq.{getD-set-same, take-set-le, drop-set-lt}
+use borrow.Author.Tests.{ltb-true, ltb-false}
+use Rattle.sorts.specs.Numbers.{conclusions, allMarks}
 use Rattle.rules.specs.Standing.{All, Some, Rule, ClosedRules, In, Bits, ground, blank}
 use Rattle.rules.proofs.Lists.{met-map}
 use Rattle.rules.proofs.Saturation.{in-set, in-set-cases, bits-set, same-marks}
@@ -18,8 +19,8 @@ use Rattle.rules.proofs.Ground.{closed-ground}
 use Rattle.rules.proofs.Standing.{blank-length, blank-bits, blank-none}
 use Rattle.book.specs.Machine.{State}
 use Rattle.book.specs.Closed.{ClosedSet, Stands, Lacking}
-use Rattle.marks.specs.Counts.{ones}
-use Rattle.demands.proofs.Balance.{ones-none}
+use Rattle.marks.specs.Counts.{Statements, truths, sayings, ones, marksOf as kindMarks}
+use Rattle.demands.proofs.Balance.{ones-none, ones-kinds}
 use Rattle.worked.specs.Worked.{MarksOf}
 use Rattle.worked.proofs.Listed.{rowsOf, flagsOf, closed-same}
 
@@ -225,6 +226,39 @@ ones-marks rs (n ∷ ns) t =
     let p = added rs n ns t in
     ones-set (marksOf ns) n (p .0 .small) (p .0 .unset) ∙ ap suc (ones-marks rs ns (p .1))
 
+-- How many of a list are truths, and how many sayings.
+abbrev pub ofKind : Statements → List ℕ → ℕ
+ofKind k [] = 0
+ofKind truths (n ∷ ns) = cond (ltb n conclusions) (suc (ofKind truths ns)) (ofKind truths ns)
+ofKind sayings (n ∷ ns) = cond (ltb n conclusions) (ofKind sayings ns) (suc (ofKind sayings ns))
+
+-- As many marks of each kind as the list has of it.
+kinds-marks : (rs : List Rule) (ns : List ℕ) → T (orderb rs ns) →
+    (ones (kindMarks truths (marksOf ns)) ≡ ofKind truths ns) × (ones (kindMarks sayings (marksOf ns)) ≡ ofKind sayings ns)
+kinds-marks rs [] t = let e = ones-kinds blank in let z = ones-blank in (omega arith, omega arith)
+kinds-marks rs (n ∷ ns) t =
+    let p = added rs n ns t in
+    go (ltb n conclusions) refl (kinds-marks rs ns (p .1)) (ones-set (marksOf ns) n (p .0 .small) (p .0 .unset))
+  where
+    go : (b : Bool) → ltb n conclusions ≡ b → (ones (kindMarks truths (marksOf ns)) ≡ ofKind truths ns) × (ones (kindMarks sayings (marksOf ns)) ≡ ofKind sayings ns) →
+        ones (set (marksOf ns) n 1) ≡ suc (ones (marksOf ns)) →
+        (ones (kindMarks truths (set (marksOf ns) n 1)) ≡ cond b (suc (ofKind truths ns)) (ofKind truths ns)) ×
+        (ones (kindMarks sayings (set (marksOf ns) n 1)) ≡ cond b (ofKind sayings ns) (suc (ofKind sayings ns)))
+    go true q ih s =
+        let a = ih .0 in
+        let c = ih .1 in
+        let d = ap ones (drop-set-lt conclusions (marksOf ns) n 1 (ltb-true n conclusions q)) in
+        let e = ones-kinds (set (marksOf ns) n 1) in
+        let f = ones-kinds (marksOf ns) in
+        (omega arith, omega arith)
+    go false q ih s =
+        let a = ih .0 in
+        let c = ih .1 in
+        let d = ap ones (take-set-le conclusions (marksOf ns) n 1 (ltb-false n conclusions q)) in
+        let e = ones-kinds (set (marksOf ns) n 1) in
+        let f = ones-kinds (marksOf ns) in
+        (omega arith, omega arith)
+
 -- Where the rules of a state pass the test, the listed statements are those that stand.
 abbrev pub certified : State → List ℕ → Bool
 certified M ns = test (ground (rowsOf M) (flagsOf M)) ns
@@ -256,3 +290,7 @@ module _ (M : State) (ns : List ℕ) (t : T (certified M ns)) where
 
   pub counted : (m : List ℕ) → MarksOf M m → ones m ≡ length ns
   counted m k = ap ones (marks-are m k) ∙ ones-marks rs ns order
+
+  pub counted-kind : (k : Statements) (m : List ℕ) → MarksOf M m → ones (kindMarks k m) ≡ ofKind k ns
+  counted-kind truths m j = ap (λ (l : List ℕ). ones (kindMarks truths l)) (marks-are m j) ∙ kinds-marks rs ns order .0
+  counted-kind sayings m j = ap (λ (l : List ℕ). ones (kindMarks sayings l)) (marks-are m j) ∙ kinds-marks rs ns order .1

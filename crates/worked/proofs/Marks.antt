@@ -4,14 +4,16 @@ use mathlib.Core.Path.{_≡_, refl, sym, ap, subst, _∙_}
 use mathlib.Core.List.{List, map}
 use native.Mathlib.Nat.{add-zero, add-suc}
 use native.Mathlib.Omega.{arith}
+use lib.ListN.{length}
 use lib.IntN.{ℤ, pos, negsuc, predℤ, negℤ, _+ℤ_, _-ℤ_, pred-suc, sucℤ-+ℤ, +ℤ-predℤ}
 use Rattle.reader.specs.Records.{Record}
 use Rattle.exact.specs.Writing.{writtenRecord}
+use Rattle.rules.specs.Standing.{Bits}
 use Rattle.rules.proofs.Saturation.{same-marks}
 use Rattle.book.specs.Machine.{State, start}
-use Rattle.marks.specs.Counts.{gains, ones, countsOf}
+use Rattle.marks.specs.Counts.{Statements, truths, sayings, gains, ones, marksOf, changeOf, countsOf, changeIn}
 use Rattle.book.specs.Chains.{runs}
-use Rattle.demands.proofs.Balance.{balance}
+use Rattle.demands.proofs.Balance.{balance, kind-length, kind-bits}
 use Rattle.demands.proofs.Existence.{chain-some}
 use Rattle.demands.proofs.Demand3.{demand-3}
 use Rattle.worked.specs.Worked.{machine, MarksOf}
@@ -46,7 +48,15 @@ same-less a b c d e =
     let f : b + d ≡ d + b = omega arith in
     sym (less-more a b d) ∙ (λ i. pos (e i) -ℤ pos (f i)) ∙ less-more c d b
 
--- The net is the marks standing now less those that stood.
-pub net-is : (L M : State) (l m : List ℕ) → MarksOf L l → MarksOf M m → countsOf l m .net ≡ pos (ones m) -ℤ pos (ones l)
-unfolding countsOf
-net-is L M l m j k = same-less (gains l m) (gains m l) (ones m) (ones l) (balance l m (j .size ∙ sym (k .size)) (j .bits) (k .bits))
+kind-net : (k : Statements) (l m : List ℕ) → length l ≡ length m → Bits l → Bits m →
+    pos (gains (marksOf k l) (marksOf k m)) -ℤ pos (gains (marksOf k m) (marksOf k l)) ≡ pos (ones (marksOf k m)) -ℤ pos (ones (marksOf k l))
+kind-net k l m e a b =
+    same-less (gains (marksOf k l) (marksOf k m)) (gains (marksOf k m) (marksOf k l)) (ones (marksOf k m)) (ones (marksOf k l))
+    (balance (marksOf k l) (marksOf k m) (kind-length k l m e) (kind-bits k l a) (kind-bits k m b))
+
+-- The net of each kind is the marks standing now less those that stood.
+pub net-is : (k : Statements) (L M : State) (l m : List ℕ) → MarksOf L l → MarksOf M m →
+    changeIn k (countsOf l m) .net ≡ pos (ones (marksOf k m)) -ℤ pos (ones (marksOf k l))
+unfolding countsOf changeOf
+net-is truths L M l m i j = kind-net truths l m (i .size ∙ sym (j .size)) (i .bits) (j .bits)
+net-is sayings L M l m i j = kind-net sayings l m (i .size ∙ sym (j .size)) (i .bits) (j .bits)

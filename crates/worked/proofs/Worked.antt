@@ -9,9 +9,10 @@ use lib.ListN.{length}
 use Rattle.reader.specs.Records.{Record}
 use Rattle.exact.specs.Writing.{writtenRecord}
 use Rattle.book.specs.Machine.{State, Verdict, changes, asks, refuses, start, step}
-use Rattle.worked.specs.Worked.{machine, Accepted, numberIn, Answer, permitted, not-permitted, marks, net, Says, All, Example, Right, table}
+use Rattle.marks.specs.Counts.{Statements, truths, sayings, countsOf, changeIn}
+use Rattle.worked.specs.Worked.{machine, Accepted, numberIn, Answer, permitted, not-permitted, marks, each, nets, MarksOf, Says, All, Example, Right, table}
 use Rattle.worked.proofs.Computing.{listed, fed, rowed, grounded}
-use Rattle.worked.proofs.Certified.{both, left, right, memb, certified, present, missing, counted}
+use Rattle.worked.proofs.Certified.{both, left, right, memb, ofKind, certified, present, missing, counted, counted-kind}
 use Rattle.worked.proofs.Marks.{net-is}
 
 -- The statements that stand after an example's records, and after the records that it is set against, if there are any: each
@@ -37,11 +38,16 @@ sameb (pos a) (negsuc b) = false
 sameb (negsuc a) (pos b) = false
 sameb (negsuc a) (negsuc b) = eqb a b
 
+-- the marks of a kind that stand now less those that stood
+abbrev difference : Statements → Certificate → ℤ
+difference s k = pos (ofKind s (k .now)) -ℤ pos (ofKind s (k .before))
+
 abbrev answerb : List Record → Certificate → Answer → Bool
 answerb es k (permitted c) = memb (numberIn (machine es) c) (k .now)
 answerb es k (not-permitted c) = not (memb (numberIn (machine es) c) (k .now))
 answerb es k (marks n) = eqb (length (k .now)) n
-answerb es k (net old z) = both (certified (machine old) (k .before)) (sameb (pos (length (k .now)) -ℤ pos (length (k .before))) z)
+answerb es k (each t s) = both (eqb (ofKind truths (k .now)) t) (eqb (ofKind sayings (k .now)) s)
+answerb es k (nets old y z) = both (certified (machine old) (k .before)) (both (sameb (difference truths k) y) (sameb (difference sayings k) z))
 
 abbrev answersb : List Record → Certificate → List Answer → Bool
 answersb es k [] = true
@@ -76,18 +82,33 @@ same-int (negsuc a) (pos b) t = absurd t
 same-int (negsuc a) (negsuc b) t = ap negsuc (eqb→eq a b t)
 
 module _ (es : List Record) (k : Certificate) (t : T (certified (machine es) (k .now))) where
+  of-kind : (s : Statements) (old : List Record) → T (certified (machine old) (k .before)) → (l m : List ℕ) → MarksOf (machine old) l → MarksOf (machine es) m →
+      changeIn s (countsOf l m) .net ≡ difference s k
+  of-kind s old u l m i j =
+      let p = counted-kind (machine es) (k .now) t s m j in
+      let q = counted-kind (machine old) (k .before) u s l i in
+      net-is s (machine old) (machine es) l m i j ∙ (λ x. pos (p x) -ℤ pos (q x))
+
   holds : (a : Answer) → T (answerb es k a) → Says es a
   holds (permitted c) u = present (machine es) (k .now) t (numberIn (machine es) c) u
   holds (not-permitted c) u = missing (machine es) (k .now) t (numberIn (machine es) c) u
   holds (marks n) u = record { count = λ m j. counted (machine es) (k .now) t m j ∙ eqb→eq (length (k .now)) n u }
-  holds (net old z) u =
+  holds (each n s) u = record {
+    count = λ m j. (
+      counted-kind (machine es) (k .now) t truths m j ∙ eqb→eq (ofKind truths (k .now)) n (left (eqb (ofKind truths (k .now)) n) (eqb (ofKind sayings (k .now)) s) u),
+      counted-kind (machine es) (k .now) t sayings m j ∙ eqb→eq (ofKind sayings (k .now)) s (right (eqb (ofKind truths (k .now)) n) (eqb (ofKind sayings (k .now)) s) u),
+    );
+  }
+  holds (nets old y z) u =
       let a = certified (machine old) (k .before) in
-      let b = sameb (pos (length (k .now)) -ℤ pos (length (k .before))) z in
+      let b = sameb (difference truths k) y in
+      let c = sameb (difference sayings k) z in
+      let v : T (both b c) = right a (both b c) u in
       record {
-        difference = λ l m i j.
-            let p = counted (machine es) (k .now) t m j in
-            let q = counted (machine old) (k .before) (left a b u) l i in
-            net-is (machine old) (machine es) l m i j ∙ (λ x. pos (p x) -ℤ pos (q x)) ∙ same-int (pos (length (k .now)) -ℤ pos (length (k .before))) z (right a b u);
+        difference = λ l m i j. (
+          of-kind truths old (left a (both b c) u) l m i j ∙ same-int (difference truths k) y (left b c v),
+          of-kind sayings old (left a (both b c) u) l m i j ∙ same-int (difference sayings k) z (right b c v),
+        );
       }
 
   answers-hold : (l : List Answer) → T (answersb es k l) → All (Says es) l

@@ -15,7 +15,7 @@ use Rattle.exact.specs.Writing.{writtenRecord}
 use Rattle.book.specs.Machine.{State, changes, start, step}
 use Rattle.book.specs.Chains.{runs}
 use Rattle.book.specs.Closed.{Stands, Lacking}
-use Rattle.marks.specs.Counts.{ones, countsOf}
+use Rattle.marks.specs.Counts.{truths, sayings, ones, marksOf, countsOf}
 
 -- "Smart 0, Attractive 1, Good 2, Great 3, Trusted 4."
 abbrev pub smart : ℕ → Concl
@@ -95,21 +95,27 @@ pub record MarksOf (M : State) (m : List ℕ) : Type 1 where
   pub bits : (n : ℕ) → getD m n 0 ≤ 1
   pub stand : (n : ℕ) → (getD m n 0 ≡ 1) ↔ Stands M n
 
--- What the document says of an example: a conclusion is permitted, or not; so many marks; the net, against the marks that stood
--- after other records.
+-- What the documents say of an example: a conclusion is permitted, or not; so many marks; so many truths and so many sayings; the
+-- nets of truths and of sayings, against the marks that stood after other records.
 pub data Answer : Type 0 where
   permitted : Concl → Answer
   not-permitted : Concl → Answer
   marks : ℕ → Answer
-  net : List Record → ℤ → Answer
+  each : ℕ → ℕ → Answer
+  nets : List Record → ℤ → ℤ → Answer
 
 -- So many of a state's marks stand.
 pub record Marked (M : State) (n : ℕ) : Type 1 where
   pub count : (m : List ℕ) → MarksOf M m → ones m ≡ n
 
--- "the net, which is gained less lost and may be below zero", from the marks of one state to those of another.
-pub record Net (L M : State) (z : ℤ) : Type 1 where
-  pub difference : (l m : List ℕ) → MarksOf L l → MarksOf M m → countsOf l m .net ≡ z
+-- So many of its marks of truths, and so many of its marks of sayings.
+pub record MarkedEach (M : State) (t s : ℕ) : Type 1 where
+  pub count : (m : List ℕ) → MarksOf M m → (ones (marksOf truths m) ≡ t) × (ones (marksOf sayings m) ≡ s)
+
+-- "the net, which is gained less lost and may be below zero", of truths and of sayings, from the marks of one state to those of
+-- another.
+pub record Nets (L M : State) (y z : ℤ) : Type 1 where
+  pub difference : (l m : List ℕ) → MarksOf L l → MarksOf M m → (countsOf l m .truths .net ≡ y) × (countsOf l m .sayings .net ≡ z)
 
 -- An answer is right of the records: "permitted exactly when each closed set contains the conclusion, not permitted exactly when
 -- some closed set lacks it".
@@ -117,7 +123,8 @@ abbrev pub Says : List Record → Answer → Type 1
 Says es (permitted c) = Stands (machine es) (numberIn (machine es) c)
 Says es (not-permitted c) = Lacking (machine es) (numberIn (machine es) c)
 Says es (marks n) = Marked (machine es) n
-Says es (net before z) = Net (machine before) (machine es) z
+Says es (each t s) = MarkedEach (machine es) t s
+Says es (nets before y z) = Nets (machine before) (machine es) y z
 
 -- All of a list.
 abbrev pub All : {A : Type 0} → (A → Type 1) → List A → Type 1
@@ -134,13 +141,14 @@ pub record Right (e : Example) : Type 1 where
   pub accepted : Accepted start (e .entries)
   pub answered : All (Says (e .entries)) (e .answers)
 
--- P1: 0: Smart(2). 1: 0 said Smart(2) gives Attractive(2). T: Perm(1, issue, that grant). Attractive(2) permitted; 4 marks.
+-- P1: 0: Smart(2). 1: 0 said Smart(2) gives Attractive(2). T: Perm(1, issue, that grant). Attractive(2) permitted; 4 marks. Two are
+-- truths, Attractive(2) and the right, and two what 0 and 1 said.
 unfoldable pub P1 : Example
 P1 =
     let that = when 0 (smart 2) (attractive 2) in
     record {
       entries = licence 0 (plain (smart 2)) ∷ licence 1 that ∷ trust (plain (perm 1 (issue that))) ∷ [];
-      answers = permitted (attractive 2) ∷ marks 4 ∷ [];
+      answers = permitted (attractive 2) ∷ marks 4 ∷ each 2 2 ∷ [];
     }
 
 -- P2: P1 without the trusted grant. Not permitted; 2 marks.
@@ -227,12 +235,12 @@ P9 =
       answers = permitted (trusted 2) ∷ marks 3 ∷ [];
     }
 
--- Withdraw 0's: net -3, which is `negsuc 2`. Besides, 0 marks.
+-- Withdraw 0's: net -3. It is -1 of truths, `negsuc 0`, and -2 of sayings, `negsuc 1`. Besides, 0 marks.
 unfoldable pub P9-withdrawn : Example
 P9-withdrawn =
     record {
       entries = P9 .entries ++ (withdraw 0 (plain (smart 2)) ∷ []);
-      answers = marks 0 ∷ net (P9 .entries) (negsuc 2) ∷ [];
+      answers = marks 0 ∷ nets (P9 .entries) (negsuc 0) (negsuc 1) ∷ [];
     }
 
 -- P10: T: for all packs k, Perm(5, run, k). Run of pack 31 permitted, export not; 32 marks.
