@@ -63,6 +63,11 @@ digits-few (suc k) (suc j) n h = go (decLt n 10) (digits-few k j (n / 10))
         let e : n / 10 < 10 ^ (suc k) = div-lt-iff-lt-mul {k = 10} {x = n} {y = 10 ^ (suc k)} (omega arith) .1 (subst (λ (x : ℕ). n < x) (pow-suc 10 (suc k)) h) in
         omega (arith, ap (length {A = ℕ}) (digits-more j n f), length-append (digits j (n / 10)) ((48 + n % 10) ∷ []), d e)
 
+-- 10 digits hold what 32 bits do
+pub decimal-short : (n : ℕ) → n < 4294967296 → length (decimal n) ≤ 10
+unfolding decimal
+decimal-short n h = digits-few 9 (suc n) n (omega arith)
+
 -- 20 digits hold what 64 bits do
 pub decimal-few : (n : ℕ) → n < 18446744073709551616 → length (decimal n) ≤ 20
 unfolding decimal

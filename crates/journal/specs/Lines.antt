@@ -5,6 +5,7 @@ use mathlib.Core.List.{List, [], _∷_, _++_}
 use lib.ListN.{take}
 use lib.Dec.{ltb}
 use lib.IntN.{ℤ, pos, negsuc}
+use Rattle.marks.specs.declared.Counts.{Counts}
 use Rattle.book.specs.declared.Answer.{Answer}
 use Rattle.book.specs.declared.Answer.the-variants.{Permitted, NotPermitted, Changed, Refused}
 use Rattle.marks.specs.Counts.{ones}
@@ -46,10 +47,14 @@ refusedWord = 114 ∷ 101 ∷ 102 ∷ 117 ∷ 115 ∷ 101 ∷ 100 ∷ 32 ∷ []
 abbrev pub lettersIn : List ℕ → List ℕ
 lettersIn s = take 2 s
 
+-- Document 02, 1: "two signed nets, truths first".
+abbrev pub nets : Counts → List ℕ
+nets c = space ++ signed (c .truths .net) ++ space ++ signed (c .sayings .net)
+
 -- "then its letters and signed net, or letters and the query's answer, or `refused` and the number": what the line of the
 -- record that s starts with says of the answer.
 unfoldable pub said : List ℕ → Answer → List ℕ
-said s (Changed c) = lettersIn s ++ space ++ signed (c .net)
+said s (Changed c) = lettersIn s ++ nets c
 said s Permitted = lettersIn s ++ permitted
 said s NotPermitted = lettersIn s ++ notPermitted
 said s (Refused k) = refusedWord ++ decimal k

@@ -2,13 +2,14 @@
 use crate::text;
 use crate::text::Text;
 use book::Answer;
+use marks::Counts;
 use marks::standing;
 use reader::records;
 use reader::records::MarkOut;
 ghost use mathlib.Core.Path.{_≡_};
-ghost use Prim.Native.Nat.{_≤_};
+ghost use Prim.Native.Nat.{_+_, _≤_};
 ghost use lib.ListN.{take};
-ghost use Rattle.journal.specs.Lines.{lettersIn, said, lineOf, endOf, refusedLine};
+ghost use Rattle.journal.specs.Lines.{lettersIn, nets, said, lineOf, endOf, refusedLine};
 ghost use Rattle.journal.specs.Texts.{Carries};
 ghost use Rattle.journal.specs.inner.Texts.{Puts};
 
@@ -34,6 +35,17 @@ fn put_letters(t: Text, s: &[u8]) -> Text
     text::put(t, &m)
 }
 
+// The two nets of a change, truths first.
+fn put_nets(t: Text, c: Counts) -> Text
+    requires { ⌜ t .len ≤ 26 ⌝ }
+    ensures { λ r. ⌜ Puts t (nets c) r × (r .len ≤ t .len + 24) ⌝ }
+{
+    let truths = c.truths;
+    let sayings = c.sayings;
+    let u = text::put_signed(t.push(b' '), truths.net);
+    text::put_signed(u.push(b' '), sayings.net)
+}
+
 // What the line of the record that s starts with says of its answer.
 fn put_said(t: Text, s: &[u8], a: Answer) -> Text
     requires { ⌜ t .len ≤ 24 ⌝ }
@@ -42,7 +54,7 @@ fn put_said(t: Text, s: &[u8], a: Answer) -> Text
     match a {
         Answer::Permitted => text::put(put_letters(t, s), b" permitted"),
         Answer::NotPermitted => text::put(put_letters(t, s), b" not permitted"),
-        Answer::Changed(c) => text::put_signed(put_letters(t, s).push(b' '), c.net),
+        Answer::Changed(c) => put_nets(put_letters(t, s), c),
         Answer::Refused(k) => text::put_decimal(text::put(t, b"refused "), k as usize),
     }
 }
