@@ -1,7 +1,7 @@
 //! One journal with the listing it must give.
 
 use crate::write::Bytes;
-use reference::listing::listing;
+use reference::listing::Listing;
 
 pub struct Case {
     pub group: &'static str,
@@ -50,15 +50,16 @@ impl Case {
         Case { group, name, journal, expected: Expected::Reference }
     }
 
-    pub fn expected_listing(&self) -> String {
+    /// The listing expected, given that of the comparison evaluator.
+    pub fn expected_listing<'a>(&'a self, reference: &'a Listing) -> &'a str {
         match &self.expected {
-            Expected::Written(text) => text.clone(),
-            Expected::Reference => listing(&self.journal),
+            Expected::Written(text) => text,
+            Expected::Reference => &reference.text,
         }
     }
 }
 
-/// The answer to an accepted change.
-pub fn net(letters: &str, net: i32) -> String {
-    format!("{letters} {net:+}")
+/// The answer to an accepted change: the nets of truths and of sayings.
+pub fn nets(letters: &str, truths: i32, sayings: i32) -> String {
+    format!("{letters} {truths:+} {sayings:+}")
 }

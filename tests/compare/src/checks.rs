@@ -5,10 +5,10 @@ use crate::program::Program;
 use crate::properties::{answers, sums_and_signs};
 use crate::random::Random;
 use crate::write::Bytes;
-use reference::listing::{listing, LONGEST_JOURNAL};
+use reference::listing::{Listing, LONGEST_JOURNAL};
 use reference::reader::read_record;
 
-pub const SUMS_AND_SIGNS: &str = "property: sums and signs of the nets";
+pub const SUMS_AND_SIGNS: &str = "property: sums and signs of the nets, of truths and of sayings";
 pub const REFUSED_REMOVED: &str = "property: later answers without a refused record";
 pub const REFERENCE_WRITTEN: &str = "the reference against the written answers";
 
@@ -18,11 +18,12 @@ pub struct Check {
     pub fault: Option<String>,
 }
 
-/// Runs the program on the case's journal and judges what it prints.
-pub fn check(program: &Program, case: &Case, expected: &str, seed: u64) -> Vec<Check> {
+/// Runs the program on the case's journal and judges what it prints, beside
+/// the reference's listing of that journal.
+pub fn check(program: &Program, case: &Case, reference: &Listing, seed: u64) -> Vec<Check> {
     let mut checks = Vec::new();
     if let Expected::Written(text) = &case.expected {
-        let fault = difference(text, &listing(&case.journal));
+        let fault = difference(text, &reference.text);
         checks.push(Check { group: REFERENCE_WRITTEN, fault });
     }
     let printed = match program.listing(&case.journal) {
@@ -32,9 +33,11 @@ pub fn check(program: &Program, case: &Case, expected: &str, seed: u64) -> Vec<C
             return checks;
         }
     };
-    checks.push(Check { group: case.group, fault: difference(expected, &printed) });
+    let fault = difference(case.expected_listing(reference), &printed);
+    checks.push(Check { group: case.group, fault });
     if case.journal.len() <= LONGEST_JOURNAL {
-        checks.push(Check { group: SUMS_AND_SIGNS, fault: sums_and_signs(&printed).err() });
+        let fault = sums_and_signs(&printed, reference.standing).err();
+        checks.push(Check { group: SUMS_AND_SIGNS, fault });
         checks.extend(without_refused(program, case, &printed, seed));
     }
     checks

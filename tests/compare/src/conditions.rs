@@ -1,6 +1,6 @@
 //! Grants with one to four conditions, each of which is needed.
 
-use crate::case::{net, Case};
+use crate::case::{nets, Case};
 use crate::write::*;
 
 const GROUP: &str = "one to four conditions, each needed";
@@ -78,17 +78,17 @@ fn one_by_one(demand: &Demand, count: u8, last: u8) -> Case {
         (speaker, plain(&conclusion))
     };
     let mut records = vec![trust(&(demand.grant)(&conditions))];
-    let mut answers = vec![net("TG", 0)];
+    let mut answers = vec![nets("TG", 0, 0)];
     for i in (0..count).filter(|&i| i != last) {
         let (speaker, grant) = meet(i);
         records.push(licence(speaker, &grant));
-        answers.push(net("LI", 1));
+        answers.push(nets("LI", 0, 1));
     }
     let (speaker, grant) = meet(last);
     records.extend([given.clone(), licence(speaker, &grant), given.clone()]);
-    answers.extend(["QU not permitted".to_string(), net("LI", 2), "QU permitted".to_string()]);
+    answers.extend(["QU not permitted".to_string(), nets("LI", 1, 1), "QU permitted".to_string()]);
     records.extend([withdraw(speaker, &grant), given]);
-    answers.extend([net("WD", -2), "QU not permitted".to_string()]);
+    answers.extend([nets("WD", -1, -1), "QU not permitted".to_string()]);
     let name = format!("{}: {count} conditions, number {last} last", demand.name);
     Case::answers(GROUP, &name, &records, &answers, usize::from(count) - 1)
 }

@@ -1,4 +1,5 @@
-//! The examples of document 01, with its answers written out.
+//! The examples of document 01, with its answers written out; a change shows
+//! two nets, as document 02, 1 has it.
 
 use crate::case::Case;
 use crate::write::*;
@@ -24,12 +25,12 @@ fn listing_examples() -> Vec<Case> {
          54 47 00 00 00 01 00 00 00 00 00 00 02 02  51 55 00 02 02 \
          57 44 00 00 00 00 00 02 02  57 44 00 00 00 00 00 02 02");
     let lines = [
-        "1 TG +1",
-        "2 LI +1",
+        "1 TG +1 +0",
+        "2 LI +0 +1",
         "3 QU not permitted",
-        "4 TG +2",
+        "4 TG +2 +0",
         "5 QU permitted",
-        "6 WD -2",
+        "6 WD -1 -1",
         "7 refused 7",
         "end 7 marks 2",
     ];
@@ -37,7 +38,12 @@ fn listing_examples() -> Vec<Case> {
     vec![
         Case::written(GROUP, "the example journal", &[example], &lines),
         Case::written(GROUP, "an empty journal", &[], &["end 0 marks 0"]),
-        Case::written(GROUP, "a net of zero", &[twice], &["1 TG +1", "2 TG +0", "end 2 marks 1"]),
+        Case::written(
+            GROUP,
+            "nets of zero",
+            &[twice],
+            &["1 TG +1 +0", "2 TG +0 +0", "end 2 marks 1"],
+        ),
     ]
 }
 
@@ -66,7 +72,7 @@ fn refusal_examples() -> Vec<Case> {
 fn sixty_fifth_grant(group: &'static str) -> Case {
     let grants = (0..65u8).map(|i| plain(&property(i % 16, i / 16)));
     let records: Vec<Bytes> = grants.map(|grant| trust(&grant)).collect();
-    let mut answers = vec!["TG +1".to_string(); 64];
+    let mut answers = vec!["TG +1 +0".to_string(); 64];
     answers.push("refused 6".to_string());
     Case::answers(group, "6: TG of a 65th grant", &records, &answers, 64)
 }
@@ -180,17 +186,17 @@ fn fault_order() -> Vec<Case> {
 fn accepted_records() -> Vec<Case> {
     const GROUP: &str = "document 01: accepted records at the ends of the ranges";
     let table: &[(&str, &str, usize)] = &[
-        ("54 47 00 00 00 00 0F 0F", "TG +1", 1),
-        ("54 47 01 00 00 00 00 80", "TG +16", 16),
-        ("54 47 02 00 00 00 00 81", "TG +16", 16),
-        ("54 47 02 02 00 00 00 00", "TG +1", 1),
-        ("54 47 00 01 00 01 00 01", "TG +64", 64),
-        ("54 47 01 01 00 01 80 01", "TG +1024", 1_024),
-        ("54 47 00 02 00 02 0F 80", "TG +32", 32),
-        ("54 47 02 02 00 03 81 80", "TG +512", 512),
-        ("4C 49 0F 00 00 00 03 0F 1F", "LI +1", 1),
-        ("4C 49 0F 01 01 00 01 80 01", "LI +1024", 1_024),
-        ("4C 49 00 01 00 01 80 00 00 80 00 00 80", "LI +0", 0),
+        ("54 47 00 00 00 00 0F 0F", "TG +1 +0", 1),
+        ("54 47 01 00 00 00 00 80", "TG +16 +0", 16),
+        ("54 47 02 00 00 00 00 81", "TG +16 +0", 16),
+        ("54 47 02 02 00 00 00 00", "TG +1 +0", 1),
+        ("54 47 00 01 00 01 00 01", "TG +64 +0", 64),
+        ("54 47 01 01 00 01 80 01", "TG +1024 +0", 1_024),
+        ("54 47 00 02 00 02 0F 80", "TG +32 +0", 32),
+        ("54 47 02 02 00 03 81 80", "TG +512 +0", 512),
+        ("4C 49 0F 00 00 00 03 0F 1F", "LI +0 +1", 1),
+        ("4C 49 0F 01 01 00 01 80 01", "LI +0 +1024", 1_024),
+        ("4C 49 00 01 00 01 80 00 00 80 00 00 80", "LI +0 +0", 0),
         ("51 55 00 0F 0F", "QU not permitted", 0),
         ("51 55 03 0F 1F", "QU not permitted", 0),
         ("51 55 01 0F 00 02 01 00 01 81 01", "QU not permitted", 0),
@@ -198,7 +204,7 @@ fn accepted_records() -> Vec<Case> {
         (
             "54 47 00 00 00 01 00 00 00 00 00 01 00 00 00 00 00 01 00 00 \
              00 00 00 00 00 00",
-            "TG +1",
+            "TG +1 +0",
             1,
         ),
         (
@@ -236,13 +242,13 @@ fn p1_to_p10() -> Vec<Case> {
                 trust(&plain(&issue(1, &attractive))),
                 query(&property(ATTRACTIVE, 2)),
             ],
-            &["1 LI +1", "2 LI +1", "3 TG +2", "4 QU permitted", "end 4 marks 4"],
+            &["1 LI +0 +1", "2 LI +0 +1", "3 TG +2 +0", "4 QU permitted", "end 4 marks 4"],
         ),
         Case::written(
             GROUP,
             "P2",
             &[licence(0, &smart(2)), licence(1, &attractive), query(&property(ATTRACTIVE, 2))],
-            &["1 LI +1", "2 LI +1", "3 QU not permitted", "end 3 marks 2"],
+            &["1 LI +0 +1", "2 LI +0 +1", "3 QU not permitted", "end 3 marks 2"],
         ),
         Case::written(
             GROUP,
@@ -252,13 +258,13 @@ fn p1_to_p10() -> Vec<Case> {
                 trust(&when(&[zero_said_smart(0)], &issue(0, &smart(0)))),
                 query(&property(SMART, 0)),
             ],
-            &["1 LI +1", "2 TG +2", "3 QU permitted", "end 3 marks 3"],
+            &["1 LI +0 +1", "2 TG +2 +0", "3 QU permitted", "end 3 marks 3"],
         ),
         Case::written(
             GROUP,
             "P4",
             &[trust(&smart(0)), query(&property(SMART, 1))],
-            &["1 TG +1", "2 QU not permitted", "end 2 marks 1"],
+            &["1 TG +1 +0", "2 QU not permitted", "end 2 marks 1"],
         ),
         // 0 said Great(2), Good(2), Great(3), Good(3); then 64 rights and
         // those four as truths.
@@ -274,11 +280,11 @@ fn p1_to_p10() -> Vec<Case> {
                 query(&property(GOOD, 3)),
             ],
             &[
-                "1 LI +0",
-                "2 LI +0",
-                "3 LI +4",
+                "1 LI +0 +0",
+                "2 LI +0 +0",
+                "3 LI +0 +4",
                 "4 QU not permitted",
-                "5 TG +68",
+                "5 TG +68 +0",
                 "6 QU permitted",
                 "end 6 marks 72",
             ],
@@ -287,7 +293,7 @@ fn p1_to_p10() -> Vec<Case> {
             GROUP,
             "P6, the circle alone",
             &[licence(0, &smart_if_said_by(1)), licence(1, &smart_if_said_by(0))],
-            &["1 LI +0", "2 LI +0", "end 2 marks 0"],
+            &["1 LI +0 +0", "2 LI +0 +0", "end 2 marks 0"],
         ),
         Case::written(
             GROUP,
@@ -297,19 +303,19 @@ fn p1_to_p10() -> Vec<Case> {
                 licence(1, &smart_if_said_by(0)),
                 licence(1, &smart(2)),
             ],
-            &["1 LI +0", "2 LI +0", "3 LI +2", "end 3 marks 2"],
+            &["1 LI +0 +0", "2 LI +0 +0", "3 LI +0 +2", "end 3 marks 2"],
         ),
         Case::written(
             GROUP,
             "P7",
             &[licence(0, &may_issue_all(0)), query(&issue(0, &may_issue_all(0)))],
-            &["1 LI +64", "2 QU not permitted", "end 2 marks 64"],
+            &["1 LI +0 +64", "2 QU not permitted", "end 2 marks 64"],
         ),
         Case::written(
             GROUP,
             "P8",
             &[trust(&smart(2)), trust(&good_if_smart), query(&property(GOOD, 2))],
-            &["1 TG +1", "2 TG +0", "3 QU not permitted", "end 3 marks 1"],
+            &["1 TG +1 +0", "2 TG +0 +0", "3 QU not permitted", "end 3 marks 1"],
         ),
         Case::written(
             GROUP,
@@ -323,11 +329,11 @@ fn p1_to_p10() -> Vec<Case> {
                 query(&property(TRUSTED, 2)),
             ],
             &[
-                "1 LI +1",
-                "2 LI +1",
-                "3 TG +1",
+                "1 LI +0 +1",
+                "2 LI +0 +1",
+                "3 TG +1 +0",
                 "4 QU permitted",
-                "5 WD -3",
+                "5 WD -1 -2",
                 "6 QU not permitted",
                 "end 6 marks 0",
             ],
@@ -340,7 +346,7 @@ fn p1_to_p10() -> Vec<Case> {
                 query(&run(5, 31)),
                 query(&export(5, 31)),
             ],
-            &["1 TG +32", "2 QU permitted", "3 QU not permitted", "end 3 marks 32"],
+            &["1 TG +32 +0", "2 QU permitted", "3 QU not permitted", "end 3 marks 32"],
         ),
     ]
 }

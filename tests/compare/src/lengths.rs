@@ -1,6 +1,6 @@
 //! The limit of a journal's length.
 
-use crate::case::{net, Case};
+use crate::case::{nets, Case};
 use crate::tables::simple;
 use crate::write::*;
 
@@ -11,12 +11,11 @@ pub fn cases() -> Vec<Case> {
     let asks = query(&property(1, 0));
     let filled = [two, asks.repeat(13_104)].concat();
     assert_eq!(filled.len(), 65_536);
-    let mut answers = vec![net("TG", 1), net("TG", 1)];
+    let mut answers = vec![nets("TG", 1, 0), nets("TG", 1, 0)];
     answers.extend(vec!["QU permitted".to_string(); 13_104]);
     let entered = [trust(&simple(3)), strike(&simple(3))].concat().repeat(4_096);
     assert_eq!(entered.len(), 65_536);
-    let in_turn = (0..8_192).map(|i| if i % 2 == 0 { net("TG", 1) } else { net("ST", -1) });
-    let in_turn: Vec<String> = in_turn.collect();
+    let in_turn = vec![[nets("TG", 1, 0), nets("ST", -1, 0)]; 4_096].concat();
     let with = |bytes: &[u8], more: &[u8]| vec![[bytes, more].concat()];
     let mut cut_short = filled[..65_535].to_vec();
     cut_short.insert(0, b'Q');

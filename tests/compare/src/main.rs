@@ -9,6 +9,7 @@ mod circles;
 mod conditions;
 mod document000;
 mod document01;
+mod document02;
 mod evaluators;
 mod families;
 mod generate;
@@ -26,6 +27,7 @@ mod write;
 
 use case::Case;
 use program::Program;
+use reference::listing::listing;
 use report::Report;
 use std::process::ExitCode;
 use tally::Tally;
@@ -60,6 +62,7 @@ fn read_arguments(arguments: &[String]) -> Option<(&str, u64)> {
 
 fn all_cases(seed: u64) -> Vec<Case> {
     let mut cases = document01::cases();
+    cases.extend(document02::cases());
     cases.extend(document000::cases());
     cases.extend(conditions::cases());
     cases.extend(circles::cases(seed));
@@ -83,12 +86,12 @@ fn small_cases(seed: u64) -> Vec<Case> {
 
 fn check_program(program: &Program, cases: &[Case], seed: u64, report: &mut Report) {
     let results = parallel::map(cases, |case| {
-        let expected = case.expected_listing();
-        (checks::check(program, case, &expected, seed), expected)
+        let reference = listing(&case.journal);
+        (checks::check(program, case, &reference, seed), reference)
     });
     let mut tally = Tally::default();
-    for (case, (checks, expected)) in cases.iter().zip(&results) {
-        tally.add(expected);
+    for (case, (checks, reference)) in cases.iter().zip(&results) {
+        tally.add(case.expected_listing(reference));
         report.add(case, checks);
     }
     tally.print();

@@ -2,10 +2,10 @@
 //! marks, and the answers come from the reference's marks of the journal
 //! alone. A query shows a truth. What a speaker said is shown by a trusted
 //! grant, "for all x, the speaker said e(x) gives Property(k, x)" over a
-//! property that the journal leaves unused: its net is how many x there are,
-//! queries of the property say which, and then it is struck.
+//! property that the journal leaves unused: its net of truths is how many x
+//! there are, queries of the property say which, and then it is struck.
 
-use crate::case::{net, Case};
+use crate::case::{nets, Case};
 use crate::checks::Check;
 use crate::families::{middle_journals, narrow_journals, small_journals};
 use crate::program::Program;
@@ -81,7 +81,7 @@ impl Known {
         let mut end = 0;
         let book = replay(journal, |entry, _, _| end = entry.start + entry.length);
         let journal = journal[..end].to_vec();
-        let answers = answers(&listing(&journal)).into_iter().map(str::to_string).collect();
+        let answers = answers(&listing(&journal).text).into_iter().map(str::to_string).collect();
         let mut grants: Vec<Bytes> = book.machine.numbered.iter().map(grant_bytes).collect();
         let given = grants.len();
         let fresh = (0..PACKS).flat_map(|n| (0..PRINCIPALS).map(move |p| plain(&run(p, n))));
@@ -122,7 +122,7 @@ impl Known {
         let mut script = Script {
             journal: self.journal.clone(),
             answers: self.answers.clone(),
-            standing: self.book.marks.count(),
+            standing: self.book.marks.count().total(),
             added: Vec::new(),
             marks: 0,
         };
@@ -257,14 +257,14 @@ impl Probe {
         let count = (0..PRINCIPALS).filter(|&p| has_said(p)).count() as i32;
         let condition = said(self.speaker, &self.said);
         let probe = for_all(1, self.resource, &[condition], &property(shown, X));
-        script.add(trust(&probe), net("TG", count));
+        script.add(trust(&probe), nets("TG", count, 0));
         if count > 0 {
             for principal in 0..PRINCIPALS {
                 let answer = queried(has_said(principal));
                 script.add(query(&property(shown, principal)), answer);
             }
         }
-        script.add(strike(&probe), net("ST", -count));
+        script.add(strike(&probe), nets("ST", -count, 0));
         if self.claims.len() == 1 {
             script.marks += usize::from(PRINCIPALS);
         }

@@ -1,9 +1,19 @@
-//! Properties that every listing must have, judged from its lines alone.
+//! Properties that every listing must have, judged from its lines and from how
+//! many statements stand at its end.
+
+use reference::sorts::Count;
 
 /// The last line of a listing.
 struct LastLine {
     records: usize,
     marks: i64,
+}
+
+/// A number of truths and one of sayings.
+#[derive(Clone, Copy, Debug, PartialEq, Eq)]
+struct Pair {
+    truths: i64,
+    sayings: i64,
 }
 
 /// The answer of each record line, without its number.
@@ -16,9 +26,11 @@ fn without_number(line: &str) -> &str {
     line.trim_start_matches(|c: char| c.is_ascii_digit()).trim_start_matches(' ')
 }
 
-/// Line numbers count from 1, the last line has their count, the signed nets
-/// add up to the marks, an entry loses nothing and a removal gains nothing.
-pub fn sums_and_signs(listing: &str) -> Result<(), String> {
+/// Line numbers count from 1 and the last line has their count. The nets of
+/// truths add up to the truths standing, those of sayings to the sayings, and
+/// all of them to the marks. An entry loses nothing of either kind, and a
+/// removal gains nothing.
+pub fn sums_and_signs(listing: &str, standing: Count) -> Result<(), String> {
     let last = last_line(listing)?;
     let lines: Vec<&str> = listing.lines().collect();
     let records = &lines[..lines.len() - 1];
@@ -29,15 +41,21 @@ pub fn sums_and_signs(listing: &str) -> Result<(), String> {
             last.records
         ));
     }
-    let mut sum = 0;
+    let mut sum = Pair { truths: 0, sayings: 0 };
     for (place, line) in records.iter().enumerate() {
         let prefix = format!("{} ", place + 1);
         let answer = line.strip_prefix(&prefix).ok_or(format!("wrong number in: {line}"))?;
-        sum += signed_net(answer).map_err(|fault| format!("{fault} in: {line}"))?;
+        let nets = signed_nets(answer).map_err(|fault| format!("{fault} in: {line}"))?;
+        sum.truths += nets.truths;
+        sum.sayings += nets.sayings;
     }
-    match sum == last.marks {
+    let standing = Pair { truths: standing.truths as i64, sayings: standing.sayings as i64 };
+    if sum != standing {
+        return Err(format!("the nets add up to {sum:?}, standing are {standing:?}"));
+    }
+    match sum.truths + sum.sayings == last.marks {
         true => Ok(()),
-        false => Err(format!("the nets add up to {sum}, the marks are {}", last.marks)),
+        false => Err(format!("the nets add up to {sum:?}, the marks are {}", last.marks)),
     }
 }
 
@@ -53,21 +71,31 @@ fn last_line(listing: &str) -> Result<LastLine, String> {
     }
 }
 
-/// The net of one answer; 0 for a query and a refusal.
-fn signed_net(answer: &str) -> Result<i64, String> {
+/// The nets of one answer; 0 for a query and a refusal.
+fn signed_nets(answer: &str) -> Result<Pair, String> {
     match answer.split_once(' ') {
-        Some(("TG" | "LI", net)) => match parse_net(net)? {
-            net if net < 0 => Err("an entry reports a loss".to_string()),
-            net => Ok(net),
+        Some(("TG" | "LI", nets)) => match parse_nets(nets)? {
+            nets if nets.truths < 0 => Err("an entry loses truths".to_string()),
+            nets if nets.sayings < 0 => Err("an entry loses sayings".to_string()),
+            nets => Ok(nets),
         },
-        Some(("ST" | "WD", net)) => match parse_net(net)? {
-            net if net > 0 => Err("a removal reports a gain".to_string()),
-            net => Ok(net),
+        Some(("ST" | "WD", nets)) => match parse_nets(nets)? {
+            nets if nets.truths > 0 => Err("a removal gains truths".to_string()),
+            nets if nets.sayings > 0 => Err("a removal gains sayings".to_string()),
+            nets => Ok(nets),
         },
-        Some(("QU", "permitted" | "not permitted")) => Ok(0),
-        Some(("refused", "1" | "2" | "3" | "4" | "5" | "6" | "7")) => Ok(0),
+        Some(("QU", "permitted" | "not permitted"))
+        | Some(("refused", "1" | "2" | "3" | "4" | "5" | "6" | "7")) => {
+            Ok(Pair { truths: 0, sayings: 0 })
+        }
         _ => Err("unknown answer".to_string()),
     }
+}
+
+/// Two nets with a blank between, truths first.
+fn parse_nets(text: &str) -> Result<Pair, String> {
+    let (truths, sayings) = text.split_once(' ').ok_or("one net alone")?;
+    Ok(Pair { truths: parse_net(truths)?, sayings: parse_net(sayings)? })
 }
 
 fn parse_net(text: &str) -> Result<i64, String> {

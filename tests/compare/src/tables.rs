@@ -1,6 +1,6 @@
 //! Nested grants, and tables with no room for another grant.
 
-use crate::case::{net, Case};
+use crate::case::{nets, Case};
 use crate::generate::any_record;
 use crate::random::Random;
 use crate::write::*;
@@ -63,7 +63,7 @@ pub fn simple(i: usize) -> Bytes {
 }
 
 fn simple_entries(count: usize) -> (Vec<Bytes>, Vec<String>) {
-    ((0..count).map(|i| trust(&simple(i))).collect(), vec![net("TG", 1); count])
+    ((0..count).map(|i| trust(&simple(i))).collect(), vec![nets("TG", 1, 0); count])
 }
 
 /// Records at a nearly full and a full table, with the answers written out.
@@ -90,9 +90,9 @@ pub fn full_tables() -> Vec<Case> {
                 (trust(&holding(1)), refused()),
                 (licence(3, &holding(1)), refused()),
                 (query(&issue(3, &holding(1))), refused()),
-                (trust(&fresh(1)), net("TG", 1)),
+                (trust(&fresh(1)), nets("TG", 1, 0)),
                 (trust(&holding(1)), refused()),
-                (licence(3, &fresh(1)), net("LI", 1)),
+                (licence(3, &fresh(1)), nets("LI", 0, 1)),
             ],
             65,
         ),
@@ -100,7 +100,7 @@ pub fn full_tables() -> Vec<Case> {
             "62 grants: one with a new inner grant fits",
             62,
             vec![
-                (trust(&holding(1)), net("TG", 1)),
+                (trust(&holding(1)), nets("TG", 1, 0)),
                 (query(&issue(0, &fresh(1))), "QU permitted".to_string()),
                 (query(&issue(0, &fresh(2))), refused()),
                 (query(&property(0, 0)), "QU permitted".to_string()),
@@ -111,8 +111,8 @@ pub fn full_tables() -> Vec<Case> {
             "62 grants: the same new inner grant twice counts once",
             62,
             vec![
-                (trust(&holding_twice), net("TG", 0)),
-                (trust(&fresh(1)), net("TG", 1)),
+                (trust(&holding_twice), nets("TG", 0, 0)),
+                (trust(&fresh(1)), nets("TG", 1, 0)),
                 (trust(&fresh(2)), refused()),
             ],
             63,
@@ -127,13 +127,13 @@ pub fn full_tables() -> Vec<Case> {
             "64 grants: what has a number is still accepted",
             64,
             vec![
-                (trust(&simple(63)), net("TG", 0)),
-                (licence(15, &simple(0)), net("LI", 1)),
-                (strike(&simple(5)), net("ST", -1)),
+                (trust(&simple(63)), nets("TG", 0, 0)),
+                (licence(15, &simple(0)), nets("LI", 0, 1)),
+                (strike(&simple(5)), nets("ST", -1, 0)),
                 (strike(&simple(5)), "refused 7".to_string()),
-                (trust(&simple(5)), net("TG", 1)),
+                (trust(&simple(5)), nets("TG", 1, 0)),
                 (withdraw(15, &simple(1)), "refused 7".to_string()),
-                (withdraw(15, &simple(0)), net("WD", -1)),
+                (withdraw(15, &simple(0)), nets("WD", 0, -1)),
                 (query(&issue(7, &simple(9))), "QU not permitted".to_string()),
             ],
             64,
@@ -159,7 +159,7 @@ pub fn full_tables() -> Vec<Case> {
                 (strike(&fresh(1)), "refused 7".to_string()),
                 (withdraw(0, &holding(2)), "refused 7".to_string()),
                 (trust(&holding(3)), refused()),
-                (trust(&fresh(4)), net("TG", 1)),
+                (trust(&fresh(4)), nets("TG", 1, 0)),
                 (query(&issue(0, &fresh(1))), refused()),
                 (query(&issue(0, &fresh(3))), refused()),
                 (query(&issue(0, &fresh(4))), "QU not permitted".to_string()),
@@ -170,8 +170,8 @@ pub fn full_tables() -> Vec<Case> {
             "a number is kept after the grant is struck",
             64,
             (0..64)
-                .map(|i| (strike(&simple(i)), net("ST", -1)))
-                .chain([(trust(&fresh(1)), refused()), (trust(&simple(8)), net("TG", 1))])
+                .map(|i| (strike(&simple(i)), nets("ST", -1, 0)))
+                .chain([(trust(&fresh(1)), refused()), (trust(&simple(8)), nets("TG", 1, 0))])
                 .collect(),
             1,
         ),
@@ -189,11 +189,11 @@ fn grants_of_depth_4(group: &'static str) -> Case {
         plain(&issue(i, &plain(&issue(i, &second))))
     };
     let mut records: Vec<Bytes> = (0..16).map(|i| trust(&chain(i))).collect();
-    let mut answers = vec![net("TG", 1); 16];
+    let mut answers = vec![nets("TG", 1, 0); 16];
     records.push(trust(&plain(&property(1, 0))));
     answers.push("refused 6".to_string());
     records.push(licence(3, &plain(&property(3, 3))));
-    answers.push(net("LI", 1));
+    answers.push(nets("LI", 0, 1));
     Case::answers(group, "sixteen grants of depth 4", &records, &answers, 17)
 }
 
@@ -205,7 +205,7 @@ fn numbers_from_queries(group: &'static str) -> Case {
     records.push(strike(&simple(3)));
     answers.push("refused 7".to_string());
     records.push(trust(&simple(3)));
-    answers.push(net("TG", 1));
+    answers.push(nets("TG", 1, 0));
     Case::answers(group, "64 grants numbered by queries", &records, &answers, 1)
 }
 
@@ -220,10 +220,10 @@ fn numbers_not_given(group: &'static str) -> Case {
         query(&property(10, 0)),
     ];
     let answers = [
-        net("TG", 64),
+        nets("TG", 64, 0),
         "QU permitted".to_string(),
-        net("LI", 2),
-        net("LI", 2),
+        nets("LI", 1, 1),
+        nets("LI", 1, 1),
         "QU permitted".to_string(),
     ];
     Case::answers(group, "rights over numbers not given", &records, &answers, 68)

@@ -23,10 +23,11 @@ impl Tally {
 
 /// The answer, with every net other than zero reduced to its sign.
 fn kind(answer: &str) -> String {
-    match answer.split_once(['+', '-']) {
-        Some((letters, "0")) => format!("{letters}+0"),
-        Some((letters, _)) if answer.contains('+') => format!("{letters}gain"),
-        Some((letters, _)) => format!("{letters}loss"),
-        None => answer.to_string(),
-    }
+    let reduced = answer.split(' ').map(|word| match word.as_bytes() {
+        b"+0" => "+0",
+        [b'+', ..] => "gain",
+        [b'-', ..] => "loss",
+        _ => word,
+    });
+    reduced.collect::<Vec<_>>().join(" ")
 }

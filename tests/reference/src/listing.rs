@@ -4,16 +4,32 @@ use crate::bottom_up::standing_statements;
 use crate::machine::Machine;
 use crate::numbered::closed_conclusion;
 use crate::reader::{read_record, Record, Refusal};
-use crate::sorts::{Marks, Statement};
+use crate::sorts::{Count, Marks, Statement};
 
 pub const LONGEST_JOURNAL: usize = 65_536;
 
 /// The answer to one record.
 #[derive(Clone, Copy, Debug, PartialEq, Eq)]
 pub enum Outcome {
-    Changed { letters: &'static str, net: i32 },
+    Changed { letters: &'static str, nets: Nets },
     Queried { permitted: bool },
     Refused(Refusal),
+}
+
+/// Gained less lost, of truths and of sayings.
+#[derive(Clone, Copy, Debug, PartialEq, Eq)]
+pub struct Nets {
+    pub truths: i32,
+    pub sayings: i32,
+}
+
+impl Nets {
+    fn of(gained: Count, lost: Count) -> Nets {
+        Nets {
+            truths: gained.truths as i32 - lost.truths as i32,
+            sayings: gained.sayings as i32 - lost.sayings as i32,
+        }
+    }
 }
 
 /// One record of a journal: where it stands in the bytes, and its answer.
@@ -45,17 +61,17 @@ impl Book {
                 let conclusion = closed_conclusion(&self.machine, tree);
                 Outcome::Queried { permitted: self.marks.has(Statement::True(conclusion)) }
             }
-            _ => Outcome::Changed { letters: record.letters(), net: self.work_out_marks() },
+            _ => Outcome::Changed { letters: record.letters(), nets: self.work_out_marks() },
         }
     }
 
     /// Works the marks out anew; gives the gained less the lost.
-    fn work_out_marks(&mut self) -> i32 {
+    fn work_out_marks(&mut self) -> Nets {
         let marks = standing_statements(&self.machine);
         let gained = marks.beyond(&self.marks);
         let lost = self.marks.beyond(&marks);
         self.marks = marks;
-        gained as i32 - lost as i32
+        Nets::of(gained, lost)
     }
 }
 
@@ -81,22 +97,31 @@ pub fn replay(journal: &[u8], mut show: impl FnMut(&Entry, Option<&Record>, &Boo
     book
 }
 
+/// A listing, and the statements that stand at its end.
+pub struct Listing {
+    pub text: String,
+    pub standing: Count,
+}
+
 /// What the listing program prints for a journal.
-pub fn listing(journal: &[u8]) -> String {
+pub fn listing(journal: &[u8]) -> Listing {
     if journal.len() > LONGEST_JOURNAL {
-        return "refused 8\n".to_string();
+        return Listing { text: "refused 8\n".to_string(), standing: Count::default() };
     }
     let mut lines = Vec::new();
     let book = replay(journal, |entry, _, _| {
         lines.push(format!("{} {}\n", lines.len() + 1, outcome_words(entry.outcome)));
     });
-    let end = format!("end {} marks {}\n", lines.len(), book.marks.count());
-    lines.concat() + &end
+    let standing = book.marks.count();
+    let end = format!("end {} marks {}\n", lines.len(), standing.total());
+    Listing { text: lines.concat() + &end, standing }
 }
 
 fn outcome_words(outcome: Outcome) -> String {
     match outcome {
-        Outcome::Changed { letters, net } => format!("{letters} {net:+}"),
+        Outcome::Changed { letters, nets: Nets { truths, sayings } } => {
+            format!("{letters} {truths:+} {sayings:+}")
+        }
         Outcome::Queried { permitted: true } => "QU permitted".to_string(),
         Outcome::Queried { permitted: false } => "QU not permitted".to_string(),
         Outcome::Refused(refusal) => format!("refused {}", refusal.number()),

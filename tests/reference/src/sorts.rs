@@ -83,6 +83,30 @@ impl Statement {
     }
 }
 
+/// How many statements of each kind: what is true, and what somebody said.
+#[derive(Clone, Copy, Debug, Default, PartialEq, Eq)]
+pub struct Count {
+    pub truths: usize,
+    pub sayings: usize,
+}
+
+impl Count {
+    fn of(statements: impl Iterator<Item = Statement>) -> Count {
+        let mut count = Count::default();
+        for statement in statements {
+            match statement {
+                Statement::True(_) => count.truths += 1,
+                Statement::Said(_) => count.sayings += 1,
+            }
+        }
+        count
+    }
+
+    pub fn total(self) -> usize {
+        self.truths + self.sayings
+    }
+}
+
 /// A set of statements.
 #[derive(Clone, PartialEq, Eq)]
 pub struct Marks {
@@ -104,12 +128,13 @@ impl Marks {
         !std::mem::replace(place, true)
     }
 
-    pub fn count(&self) -> usize {
-        self.set.iter().filter(|&&mark| mark).count()
+    pub fn count(&self) -> Count {
+        self.beyond(&Marks::none())
     }
 
     /// How many statements this set has that the other lacks.
-    pub fn beyond(&self, other: &Marks) -> usize {
-        self.set.iter().zip(&other.set).filter(|&(&here, &there)| here && !there).count()
+    pub fn beyond(&self, other: &Marks) -> Count {
+        let lacking = |&number: &usize| self.set[number] && !other.set[number];
+        Count::of((0..STATEMENTS).filter(lacking).map(Statement::from_number))
     }
 }
