@@ -1,8 +1,8 @@
 // The hand-written book: reads a journal from standard input and prints the
 // listing of the product's scope document, each line with one write. It reads
-// a record, looks its grants up, evaluates, counts the marks gained and lost
-// against the marks that stood, and prints, as the book does; it does not
-// test the form of a book, which nobody lends it.
+// a record, looks its grants up, evaluates, counts the truths and the sayings
+// gained and lost against the marks that stood, and prints, as the book does;
+// it does not test the form of a book, which nobody lends it.
 
 use crate::book::{GRANTS, JOURNAL_LIMIT, MARKS, X};
 use crate::hand::{write_and_count, Atom, Row, Table, Words};
@@ -26,7 +26,8 @@ pub struct Book {
 }
 
 pub enum Answer {
-    Net(i32),
+    /// gained less lost, of truths and of sayings
+    Nets([i32; 2]),
     Query(bool),
     Refused(u8),
 }
@@ -196,8 +197,9 @@ impl Book {
             _ => return Err(2),
         }
         self.table.evaluate(&mut self.words);
-        let (gained, lost) = write_and_count(&self.words, &mut self.marks);
-        Ok(Answer::Net(gained as i32 - lost as i32))
+        let changes = write_and_count(&self.words, &mut self.marks);
+        let nets = changes.map(|c| c.gained as i32 - c.lost as i32);
+        Ok(Answer::Nets(nets))
     }
 
     /// Gives the record's new grants their numbers, if there is room.
@@ -283,10 +285,12 @@ pub fn list() {
         line.number(records);
         line.add(b" ");
         match answer {
-            Answer::Net(net) => {
+            Answer::Nets(nets) => {
                 line.add(&journal[at..at + 2]);
-                line.add(if net < 0 { b" -" } else { b" +" });
-                line.number(net.unsigned_abs());
+                for net in nets {
+                    line.add(if net < 0 { b" -" } else { b" +" });
+                    line.number(net.unsigned_abs());
+                }
             }
             Answer::Query(true) => line.add(b"QU permitted"),
             Answer::Query(false) => line.add(b"QU not permitted"),

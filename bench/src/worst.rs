@@ -37,12 +37,13 @@ fn flip(b: &Book) -> (Vec<u8>, i32) {
         } else {
             b"WD"
         });
-        let (Answer::Net(net), _) = hand.call(&removal) else {
+        let (Answer::Nets([truths, sayings]), _) = hand.call(&removal) else {
             continue;
         };
         hand.call(entry);
-        if -net > best.1 {
-            best = ([removal.as_slice(), entry].concat(), -net);
+        let lost = -(truths + sayings);
+        if lost > best.1 {
+            best = ([removal.as_slice(), entry].concat(), lost);
         }
     }
     best
