@@ -1,0 +1,78 @@
+-- The query for a right over a pack: it is read back, the machine asks for its number, and nothing changes by it.
+use Prim.Native.Nat.{ℕ, _<_}
+use mathlib.Core.Path.{_≡_, sym, ap, _∙_}
+use mathlib.Core.Bool.{true}
+use mathlib.Core.List.{List, [], append-nil}
+use mathlib.Core.Logic.{_↔_, inl}
+use native.Mathlib.Omega.{arith}
+use borrow.Author.Tests.{le-leb}
+use lib.ListN.{length}
+use Rattle.sorts.specs.Numbers.{numberOf, speakers, packs, grants}
+use Rattle.rows.specs.Numbering.{numberConcl}
+use Rattle.rows.specs.Form.{depth}
+use Rattle.rows.specs.Allowed.{AllowedConcl}
+use Rattle.ranges.specs.Bytes.{got}
+use Rattle.reader.specs.Records.{query, readRecord}
+use Rattle.reader.specs.Requests.{fits}
+use Rattle.exact.specs.Writing.{AllowedRecord}
+use Rattle.exact.proofs.Exact.{record-read}
+use Rattle.book.specs.declared.Book.{Book}
+use Rattle.book.specs.declared.Answer.the-variants.{Permitted}
+use Rattle.book.specs.declared.Answered.{Answered}
+use Rattle.book.specs.Machine.{State, Step, asks, act, acted, step}
+use Rattle.book.specs.Books.{BookForm, Shows}
+use Rattle.book.specs.Calls.{answerAt, answerOf, Called}
+use Rattle.demands.proofs.ClosedBook.{shown}
+use Rattle.demands.proofs.Existence.{call-some}
+use Rattle.demands.proofs.Shown.{shows-some}
+use Rattle.demands.proofs.Unique.{no-choice}
+use Rattle.panel.specs.declared.PackRight.{PackRight}
+use Rattle.panel.specs.declared.PackRight.the-variants.{Run, Export}
+use Rattle.panel.specs.Panels.{asked, conclusionOf, queryFor, IsPermitted}
+
+-- a book in form shows no more grants than there is room for
+pub room : (b : Book) (m : List ℕ) (M : State) → BookForm b m → Shows b M → fits (M .N) ≡ true
+room b m M f sh = le-leb (length (M .N)) grants (omega (arith, shown b m M f sh .counted, f .table .count))
+
+module _ (p : ℕ) (x : PackRight) (n : ℕ) where
+  module _ (l : p < speakers) (k : n < packs) where
+    allowed : (y : PackRight) → AllowedRecord (query (asked p y n))
+    unfolding AllowedRecord AllowedConcl depth
+    allowed Run = ((inl l, inl k), omega arith)
+    allowed Export = ((inl l, inl k), omega arith)
+
+    read-back : readRecord (queryFor p x n) ≡ got (query (asked p x n)) (length (queryFor p x n))
+    read-back = ap readRecord (sym (append-nil (queryFor p x n))) ∙ record-read (query (asked p x n)) [] (allowed x)
+
+    -- the machine asks for the number, and stays as it is
+    pub step-asks : (M : State) → fits (M .N) ≡ true → step M (queryFor p x n) ≡ record { next = M; says = asks (numberOf (conclusionOf p x n)); used = length (queryFor p x n) }
+    unfolding step act numberConcl
+    step-asks M e = ap (acted M) read-back ∙ go x (length (queryFor p x n))
+      where
+        go : (y : PackRight) (u : ℕ) → act M (query (asked p y n)) u ≡ record { next = M; says = asks (numberOf (conclusionOf p y n)); used = u }
+        go Run u = rw e
+        go Export u = rw e
+
+    module _ (b : Book) (m : List ℕ) (f : BookForm b m) where
+      -- every call of the query answers from the mark
+      pub answered : (a : Answered) (m′ : List ℕ) → Called b m (queryFor p x n) a m′ → a .answer ≡ answerAt m (numberOf (conclusionOf p x n))
+      unfolding answerOf
+      answered a m′ C =
+          let s = shows-some b m f in
+          C .formed f (s .0) (s .1) .answer ∙
+          ap (λ (t : Step). answerOf (t .says) m m′) (step-asks (s .0) (room b m (s .0) f (s .1)))
+
+      -- so it is permitted exactly where that answer is
+      pub permitted-at : IsPermitted b m p x n ↔ (answerAt m (numberOf (conclusionOf p x n)) ≡ Permitted)
+      permitted-at = (
+        λ h. let C = call-some b m (queryFor p x n) f in sym (answered _ _ C) ∙ h _ _ C,
+        λ e a m′ C. answered a m′ C ∙ e,
+      )
+
+  -- On a book in form the query has an answer,
+  pub asked-some : (b : Book) (m : List ℕ) → BookForm b m → (a : Answered) × (m′ : List ℕ) × Called b m (queryFor p x n) a m′
+  asked-some b m f = (_, _, call-some b m (queryFor p x n) f)
+
+  -- and, whatever the book, one only.
+  pub asked-only : (b : Book) (m : List ℕ) (a a′ : Answered) (m₁ m₂ : List ℕ) → Called b m (queryFor p x n) a m₁ → Called b m (queryFor p x n) a′ m₂ → a .answer ≡ a′ .answer
+  asked-only b m a a′ m₁ m₂ C D = ap (λ (r : Answered). r .answer) (no-choice b m (queryFor p x n) a a′ m₁ m₂ C D .0)

@@ -1,0 +1,4 @@
+pub mod Words
+pub mod Asked
+pub mod Showing
+pub mod Reached

@@ -1,0 +1,98 @@
+-- What the panel promises, from what its parts say.
+use Prim.Native.Nat.{ℕ, _≤_, _<_}
+use mathlib.Core.Path.{_≡_, refl, sym, ap, _∙_}
+use mathlib.Core.Bool.{Bool, true, false}
+use mathlib.Core.List.{List}
+use mathlib.Core.Logic.{inl, inr}
+use native.Mathlib.Omega.{arith}
+use native.Mathlib.Decide.{decLt}
+use borrow.Author.Tests.{le-leb, lt-leb}
+use Rattle.sorts.specs.Decides.{Decides}
+use Rattle.sorts.specs.Numbers.{numberOf, speakers}
+use Rattle.book.specs.declared.Book.{Book}
+use Rattle.book.specs.declared.Answer.{Answer}
+use Rattle.book.specs.declared.Answer.the-variants.{Permitted, NotPermitted, Changed, Refused}
+use Rattle.book.specs.Books.{BookForm}
+use Rattle.book.specs.Calls.{answerAt}
+use Rattle.panel.specs.declared.PackRight.{PackRight}
+use Rattle.panel.specs.declared.PackRight.the-variants.{Run, Export}
+use Rattle.panel.specs.declared.Said.{Said}
+use Rattle.panel.specs.declared.Said.the-variants as said
+use Rattle.panel.specs.declared.Panel.{Panel}
+use Rattle.panel.specs.Panels.{conclusionOf, Packs, refusedWith, PanelOf}
+use Rattle.panel.specs.inner.Words.{oneFor, saidOf, WordOf}
+use Rattle.panel.proofs.Words.{word-bit}
+use Rattle.panel.proofs.Asked.{permitted-at}
+
+one-permitted : (a : Answer) → oneFor a ≡ 1 → a ≡ Permitted
+one-permitted Permitted e = refl
+one-permitted NotPermitted e = absurd (omega arith)
+one-permitted (Changed c) e = absurd (omega arith)
+one-permitted (Refused k) e = absurd (omega arith)
+
+-- the number of a refusal, 0 where there is none
+abbrev numberSaid : Said → ℕ
+numberSaid (said.Refused k) = k
+numberSaid said.Shown = 0
+
+module _ (b : Book) (m : List ℕ) (p : ℕ) where
+  -- a word made from the answers shows what is permitted
+  packs-shown : BookForm b m → p < speakers → (x : PackRight) (w : ℕ) → WordOf m p x w → Packs b m p x w
+  packs-shown f l x w W =
+      record {
+        bits = λ n k. let q = permitted-at p x n l k b m f in (
+          λ e. q .1 (one-permitted (answerAt m (numberOf (conclusionOf p x n))) (sym (word-bit m p x w W n k) ∙ e)),
+          λ h. word-bit m p x w W n k ∙ ap oneFor (q .0 h),
+        );
+        size = W .size;
+      }
+
+  said-above : speakers ≤ p → saidOf true p ≡ said.Refused 3
+  said-above l = rw (le-leb speakers p l)
+
+  said-below : p < speakers → saidOf true p ≡ said.Shown
+  said-below l = rw (lt-leb speakers p l)
+
+  -- it is shown on a book in form, to one of the principals
+  pub shown-form : (form : Bool) → Decides form (BookForm b m) → saidOf form p ≡ said.Shown → BookForm b m × (p < speakers)
+  shown-form false d e = let z : _≡_ {A = ℕ} 9 0 = ap numberSaid e in absurd (omega arith)
+  shown-form true f e = (f, go (decLt p speakers))
+    where
+      go : Dec (p < speakers) → p < speakers
+      go (yes l) = l
+      go (no l) = let z : _≡_ {A = ℕ} 3 0 = ap numberSaid (sym (said-above (omega arith)) ∙ e) in absurd (omega arith)
+
+  pub panel-shown : (form : Bool) → Decides form (BookForm b m) → saidOf form p ≡ said.Shown → (w v : ℕ) → WordOf m p Run w → WordOf m p Export v →
+      PanelOf b m p (record { said = said.Shown; run = w; export = v })
+  panel-shown form d e w v W X =
+      let h = shown-form form d e in
+      let l = h .1 in
+      record {
+        decided = inl (h .0);
+        unformed = λ g. absurd (g (h .0));
+        above = λ f k. absurd (omega arith);
+        shown = λ f k. (refl, packs-shown f k Run w W, packs-shown f k Export v X);
+      }
+
+  pub panel-refused : (form : Bool) → Decides form (BookForm b m) → (k : ℕ) → saidOf form p ≡ said.Refused k → (r : Panel) → r ≡ refusedWith k → PanelOf b m p r
+  panel-refused false d k e r q =
+      record {
+        decided = inr d;
+        unformed = λ g. q ∙ ap refusedWith (sym (ap numberSaid e));
+        above = λ f l. absurd (d f);
+        shown = λ f l. absurd (d f);
+      }
+  panel-refused true f k e r q =
+      record {
+        decided = inl f;
+        unformed = λ g. absurd (g f);
+        above = λ g l. q ∙ ap refusedWith (ap numberSaid (sym e ∙ said-above l));
+        shown = λ g l. absurd (differ (ap isShown (sym e ∙ said-below l)));
+      }
+    where
+      isShown : Said → ℕ
+      isShown (said.Refused j) = 0
+      isShown said.Shown = 1
+
+      differ : _≡_ {A = ℕ} 0 1 → ⊥
+      differ z = omega arith

@@ -1,0 +1,68 @@
+-- Document 02, §2, "The run panel of a bench".
+use Prim.Native.Nat.{ℕ, _/_, _%_, _^_, _≤_, _<_}
+use mathlib.Core.Path.{_≡_}
+use mathlib.Core.Logic.{_⊎_, _↔_}
+use mathlib.Core.List.{List, []}
+use Rattle.sorts.specs.declared.Concl.{Concl}
+use Rattle.sorts.specs.Numbers.{numberOf, speakers, packs}
+use Rattle.rows.specs.Written as written
+use Rattle.rows.specs.Written.{perm, run, export}
+use Rattle.rows.specs.Form.{conclOf}
+use Rattle.reader.specs.Records.{query}
+use Rattle.exact.specs.Writing.{writtenRecord}
+use Rattle.book.specs.declared.Book.{Book}
+use Rattle.book.specs.declared.Answer.the-variants.{Permitted}
+use Rattle.book.specs.declared.Answered.{Answered}
+use Rattle.book.specs.Machine.{State}
+use Rattle.book.specs.Closed.{Stands, Lacking}
+use Rattle.book.specs.Books.{BookForm}
+use Rattle.book.specs.Calls.{Called}
+use Rattle.panel.specs.declared.PackRight.{PackRight}
+use Rattle.panel.specs.declared.PackRight.the-variants.{Run, Export}
+use Rattle.panel.specs.declared.Said.the-variants.{Shown, Refused}
+use Rattle.panel.specs.declared.Panel.{Panel}
+
+-- "run, or export, of pack n": principal p's right as it is written in a record, and as a closed conclusion, which has a number.
+-- No grant stands in it, so that it needs none of those numbered.
+abbrev pub asked : ℕ → PackRight → ℕ → written.Concl
+asked p Run n = perm p (run n)
+asked p Export n = perm p (export n)
+
+abbrev pub conclusionOf : ℕ → PackRight → ℕ → Concl
+conclusionOf p x n = conclOf [] (asked p x n)
+
+-- The bytes of the query for it.
+abbrev pub queryFor : ℕ → PackRight → ℕ → List ℕ
+queryFor p x n = writtenRecord (query (asked p x n))
+
+-- "is permitted": whatever answer the promise of a call allows to that query, on that book, is permitted. (It allows one answer,
+-- and one only: theorems `asked-some` and `asked-only`.)
+abbrev pub IsPermitted : Book → List ℕ → ℕ → PackRight → ℕ → Type 0
+IsPermitted b m p x n = (a : Answered) (m′ : List ℕ) → Called b m (queryFor p x n) a m′ → a .answer ≡ Permitted
+
+-- Bit n of a word, counted from the lowest.
+unfoldable pub bit : ℕ → ℕ → ℕ
+bit w n = w / 2 ^ n % 2
+
+-- A "32-bit" word "where bit n is 1 exactly when run, or export, of pack n is permitted": it has a bit for each pack and no other.
+pub record Packs (b : Book) (m : List ℕ) (p : ℕ) (x : PackRight) (w : ℕ) : Type 0 where
+  pub bits : (n : ℕ) → n < packs → (bit w n ≡ 1) ↔ IsPermitted b m p x n
+  pub size : w < 2 ^ packs
+
+-- "either refusal returns both words 0"
+abbrev pub refusedWith : ℕ → Panel
+refusedWith k = record { said = Refused k; run = 0; export = 0 }
+
+-- THE PROMISE of the panel, whatever book, marks and principal: "For a principal it returns two 32-bit words"; "A principal above 15
+-- meets refusal 3, checked after 9".
+pub record PanelOf (b : Book) (m : List ℕ) (p : ℕ) (r : Panel) : Type 0 where
+  pub decided : BookForm b m ⊎ (BookForm b m → ⊥)
+  pub unformed : (BookForm b m → ⊥) → r ≡ refusedWith 9
+  pub above : BookForm b m → speakers ≤ p → r ≡ refusedWith 3
+  pub shown : BookForm b m → p < speakers → (r .said ≡ Shown) × Packs b m p Run (r .run) × Packs b m p Export (r .export)
+
+-- DEMANDED of a word of the panel, where the book was reached from a fresh one by calls and the machine is in the state M: bit n is 1
+-- exactly when each closed set contains the conclusion, and 0 exactly when some closed set lacks it. (Theorem `panel-reached`.)
+pub record Told (M : State) (p : ℕ) (x : PackRight) (w : ℕ) : Type 1 where
+  pub one : (n : ℕ) → n < packs → (bit w n ≡ 1) ↔ Stands M (numberOf (conclusionOf p x n))
+  pub zero : (n : ℕ) → n < packs → (bit w n ≡ 0) ↔ Lacking M (numberOf (conclusionOf p x n))
