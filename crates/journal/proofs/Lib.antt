@@ -6,3 +6,4 @@ pub mod Saying
 pub mod Ending
 pub mod Listings
 pub mod Reading
+pub mod Leaving

@@ -85,7 +85,7 @@ listed-some s = go (decLt 65536 (length s))
     go (no l) = let K = calls-from fresh-reached s in (_, read (K .calls) (K .book) (K .marks) (omega arith) (K .made))
 
 -- two calls of the same bytes, from the same book and marks, are the same
-calls-only : {b b₁ b₂ : Book} {m m₁ m₂ s : List ℕ} {cs ds : List Call} → Calls b m s cs b₁ m₁ → Calls b m s ds b₂ m₂ → (cs ≡ ds) × (b₁ ≡ b₂) × (m₁ ≡ m₂)
+pub calls-only : {b b₁ b₂ : Book} {m m₁ m₂ s : List ℕ} {cs ds : List Call} → Calls b m s cs b₁ m₁ → Calls b m s ds b₂ m₂ → (cs ≡ ds) × (b₁ ≡ b₂) × (m₁ ≡ m₂)
 calls-only ended ended = (refl, refl, refl)
 calls-only ended (then s r n l h x) = absurd (omega arith)
 calls-only (then s r n l h x) ended = absurd (omega arith)

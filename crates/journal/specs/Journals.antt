@@ -31,6 +31,11 @@ pub data Calls : Book → List ℕ → List ℕ → List Call → Book → List 
       Called b m s r n → Calls (r .book) n (restAfter (r .used) s) cs b′ m′ →
       Calls b m s (record { record′ = s; before = b; marks = m; gave = r; left = n } ∷ cs) b′ m′
 
+-- The book b and the marks m that a journal s leaves: those with which its calls, from a fresh book, end.
+pub record Leaves (s : List ℕ) (b : Book) (m : List ℕ) : Type 0 where
+  pub calls : List Call
+  pub made : Calls freshBook freshMarks s calls b m
+
 -- "Refusals 1 to 5 end the reading."
 abbrev pub Ends : Answer → Type 0
 Ends Permitted = ⊥

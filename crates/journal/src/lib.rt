@@ -9,7 +9,8 @@ ghost use mathlib.Core.Path.{_≡_};
 ghost use Prim.Native.Nat.{_≤_};
 ghost use lib.Dec.{ltb};
 ghost use lib.ListN.{length};
-ghost use Rattle.journal.specs.Journals.{Steps, nextPlace};
+ghost use Rattle.book.specs.Chains.{freshMarks};
+ghost use Rattle.journal.specs.Journals.{Steps, Leaves, nextPlace};
 
 // The most bytes that a journal has.
 const MOST: usize = 65536;
@@ -56,4 +57,19 @@ pub fn step(b: Book, marks: &mut [u8], s: &[u8], at: usize, n: usize) -> Stepped
         line,
         next,
     }
+}
+
+// The book that the records of a journal leave, read from a fresh one on; the marks lent with it are those that they leave.
+pub fn book_after(s: &[u8], marks: &mut [u8]) -> Book
+    requires { ⌜ now marks ≡ freshMarks ⌝ }
+    ensures { λ b. ⌜ Leaves (now (s .entry)) b (now (marks .exit)) ⌝ }
+{
+    let mut b = Book::new();
+    let mut at: usize = 0;
+    while at < s.len() {
+        let a = book::call(b, marks, &s[at..]);
+        at = next_place(s.len(), at, a.used);
+        b = a.book;
+    }
+    b
 }

@@ -19,7 +19,7 @@ use Rattle.panel.specs.declared.PackRight.the-variants.{Run, Export}
 use Rattle.panel.specs.declared.Said.{Said}
 use Rattle.panel.specs.declared.Said.the-variants as said
 use Rattle.panel.specs.declared.Panel.{Panel}
-use Rattle.panel.specs.Panels.{conclusionOf, Packs, refusedWith, PanelOf}
+use Rattle.panel.specs.Panels.{conclusionOf, numberSaid, Packs, refusedWith, PanelOf}
 use Rattle.panel.specs.inner.Words.{oneFor, saidOf, WordOf}
 use Rattle.panel.proofs.Words.{word-bit}
 use Rattle.panel.proofs.Asked.{permitted-at}
@@ -29,11 +29,6 @@ one-permitted Permitted e = refl
 one-permitted NotPermitted e = absurd (omega arith)
 one-permitted (Changed c) e = absurd (omega arith)
 one-permitted (Refused k) e = absurd (omega arith)
-
--- the number of a refusal, 0 where there is none
-abbrev numberSaid : Said → ℕ
-numberSaid (said.Refused k) = k
-numberSaid said.Shown = 0
 
 module _ (b : Book) (m : List ℕ) (p : ℕ) where
   -- a word made from the answers shows what is permitted

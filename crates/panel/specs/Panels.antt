@@ -19,6 +19,7 @@ use Rattle.book.specs.Books.{BookForm}
 use Rattle.book.specs.Calls.{Called}
 use Rattle.panel.specs.declared.PackRight.{PackRight}
 use Rattle.panel.specs.declared.PackRight.the-variants.{Run, Export}
+use Rattle.panel.specs.declared.Said.{Said}
 use Rattle.panel.specs.declared.Said.the-variants.{Shown, Refused}
 use Rattle.panel.specs.declared.Panel.{Panel}
 
@@ -48,6 +49,11 @@ bit w n = w / 2 ^ n % 2
 pub record Packs (b : Book) (m : List ℕ) (p : ℕ) (x : PackRight) (w : ℕ) : Type 0 where
   pub bits : (n : ℕ) → n < packs → (bit w n ≡ 1) ↔ IsPermitted b m p x n
   pub size : w < 2 ^ packs
+
+-- The number of what is said: that of the refusal, 0 where the panel is shown.
+abbrev pub numberSaid : Said → ℕ
+numberSaid (Refused k) = k
+numberSaid Shown = 0
 
 -- "either refusal returns both words 0"
 abbrev pub refusedWith : ℕ → Panel

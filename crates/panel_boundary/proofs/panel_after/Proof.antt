@@ -1,0 +1,37 @@
+use borrow.Author.Needs.{needs}
+use Rattle.panel_boundary.proofs.panel_after.Statement.{statement}
+use Rattle.panel_boundary.proofs.panel_after.Tie as tie
+use Rattle.panel_boundary.proofs.panel_after.Reads as reads
+use Rattle.panel_boundary.proofs.panel_after.Lts as lts
+use Rattle.journal.proofs.book_after.Reads as book-after-reads
+use Rattle.journal.proofs.over.Reads as over-reads
+use Rattle.panel.proofs.show.Reads as show-reads
+
+-- src/lib.rt:18:8
+over-requires : tie.Need-over-requires
+over-requires c κs = search needs
+
+-- src/lib.rt:19:9
+returns : tie.Need-returns
+returns c = ?
+
+-- src/lib.rt:25:9
+book-after-requires : tie.Need-book-after-requires
+book-after-requires c κs = search needs
+
+-- src/lib.rt:26:5
+show-requires : tie.Need-show-requires
+show-requires c κs = search needs
+
+-- src/lib.rt:14:1
+same-length : tie.Need-same-length
+same-length c = search needs
+
+-- src/lib.rt:14:1
+returns-2 : tie.Need-returns-2
+returns-2 c = ?
+
+pub panel-after-spec : {M : Type 1} → statement M
+panel-after-spec =
+    tie.close
+    (tie.spec over-requires returns book-after-requires show-requires same-length returns-2)

@@ -1,0 +1,38 @@
+use borrow.Author.Needs.{needs}
+use Rattle.panel_boundary.proofs.panel_of_journal.Statement.{statement}
+use Rattle.panel_boundary.proofs.panel_of_journal.Tie as tie
+use Rattle.panel_boundary.proofs.panel_of_journal.Reads as reads
+use Rattle.panel_boundary.proofs.panel_of_journal.Lts as lts
+use Rattle.panel_boundary.proofs.number.Reads as number-reads
+use Rattle.panel_boundary.proofs.panel_after.Reads as panel-after-reads
+use Rattle.panel_boundary.proofs.words.Reads as words-reads
+
+-- src/lib.rt:70:31
+slice-aggregate-panel-after : tie.Need-slice-aggregate-panel-after
+slice-aggregate-panel-after c = search needs
+
+-- src/lib.rt:70:9
+panel-after-requires : tie.Need-panel-after-requires
+panel-after-requires c κs = ?
+
+-- src/lib.rt:71:12
+words-requires : tie.Need-words-requires
+words-requires c κs = search needs
+
+-- src/lib.rt:73:5
+number-requires : tie.Need-number-requires
+number-requires c κs = search needs
+
+-- src/lib.rt:65:1
+returns : tie.Need-returns
+returns c = search needs
+
+pub panel-of-journal-spec : {M : Type 1} → statement M
+panel-of-journal-spec =
+    tie.close
+    (tie.spec
+    slice-aggregate-panel-after
+    panel-after-requires
+    words-requires
+    number-requires
+    returns)
