@@ -10,7 +10,7 @@ use Rattle.book.specs.Calls.{Called}
 use Rattle.book.specs.Chains.{Call, freshBook, freshMarks}
 use Rattle.journal.specs.Journals.{Calls, ended, then, Leaves, nextPlace}
 use Rattle.journal.proofs.Listings.{calls-only}
-use Rattle.journal.proofs.Reading.{call-rest, next-within, next-rest}
+use Rattle.journal.proofs.Reading.{next-within, next-rest}
 
 -- What was read up to a place: with any calls of what is left it makes the calls of the journal.
 pub record ReadTo (s : List ℕ) (b : Book) (m : List ℕ) (at : ℕ) : Type 0 where

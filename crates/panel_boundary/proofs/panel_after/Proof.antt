@@ -1,3 +1,6 @@
+use mathlib.Core.Path.{sym, _∙_}
+use borrow.Author.Tests.{ltb-true, ltb-false}
+use Rattle.panel_boundary.specs.Crossing.{over, read}
 use borrow.Author.Needs.{needs}
 use Rattle.panel_boundary.proofs.panel_after.Statement.{statement}
 use Rattle.panel_boundary.proofs.panel_after.Tie as tie
@@ -13,7 +16,7 @@ over-requires c κs = search needs
 
 -- src/lib.rt:19:9
 returns : tie.Need-returns
-returns c = ?
+returns c = over (ltb-true 65536 _ (sym (c .before .over .ensures) ∙ c .if1 .taken))
 
 -- src/lib.rt:25:9
 book-after-requires : tie.Need-book-after-requires
@@ -29,7 +32,7 @@ same-length c = search needs
 
 -- src/lib.rt:14:1
 returns-2 : tie.Need-returns-2
-returns-2 c = ?
+returns-2 c = read (c .before .before .before .before .book-after .result) _ (c .show .result) (ltb-false 65536 _ (sym (c .before .before .before .before .before .before .before .over .ensures) ∙ c .before .before .before .before .before .before .if1 .left)) (c .before .before .before .before .book-after .ensures) (c .show .ensures)
 
 pub panel-after-spec : {M : Type 1} → statement M
 panel-after-spec =

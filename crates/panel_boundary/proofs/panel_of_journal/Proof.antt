@@ -1,3 +1,5 @@
+use mathlib.Core.Path.{refl}
+use Rattle.book.specs.Chains.{freshMarks}
 use borrow.Author.Needs.{needs}
 use Rattle.panel_boundary.proofs.panel_of_journal.Statement.{statement}
 use Rattle.panel_boundary.proofs.panel_of_journal.Tie as tie
@@ -13,7 +15,8 @@ slice-aggregate-panel-after c = search needs
 
 -- src/lib.rt:70:9
 panel-after-requires : tie.Need-panel-after-requires
-panel-after-requires c κs = ?
+unfolding freshMarks
+panel-after-requires c κs = refl
 
 -- src/lib.rt:71:12
 words-requires : tie.Need-words-requires

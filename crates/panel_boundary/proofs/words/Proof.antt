@@ -1,3 +1,4 @@
+use mathlib.Core.List.{[], _∷_}
 use borrow.Author.Needs.{needs}
 use Rattle.panel_boundary.proofs.words.Statement.{statement}
 use Rattle.panel_boundary.proofs.words.Tie as tie
@@ -39,7 +40,7 @@ byte-requires-8 c κs = search needs
 
 -- src/lib.rt:48:1
 returns : tie.Need-returns
-returns c = ?
+returns c = λ i. (c .before .before .before .before .before .before .before .byte .ensures) i ∷ (c .before .before .before .before .before .before .byte2 .ensures) i ∷ (c .before .before .before .before .before .byte3 .ensures) i ∷ (c .before .before .before .before .byte4 .ensures) i ∷ (c .before .before .before .byte5 .ensures) i ∷ (c .before .before .byte6 .ensures) i ∷ (c .before .byte7 .ensures) i ∷ (c .byte8 .ensures) i ∷ []
 
 pub words-spec : {M : Type 1} → statement M
 words-spec =
