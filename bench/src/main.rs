@@ -8,6 +8,7 @@ mod datalog;
 mod hand;
 mod hand_book;
 mod measure;
+mod panel;
 mod picture;
 mod worst;
 
@@ -193,6 +194,7 @@ fn ratio(x: f64, limit: f64, digits: usize) -> String {
 const GRINGO_GOAL: f64 = 0.1;
 const HAND_GOAL: f64 = 2.0;
 const QUERY_GOAL: f64 = 3.0;
+const PANEL_GOAL: f64 = 2.0;
 const JOURNAL_GOAL: f64 = 3.0;
 
 /// Says whether each of the named figures is within the limit.
@@ -328,8 +330,12 @@ fn main() {
     if args.len() == 2 && args[1] == "--list" {
         return hand_book::list();
     }
+    if args.len() == 2 && args[1] == "--panel" {
+        let (panel, query) = panel::measure();
+        return println!("panel {} query {} ratio {:.2}", us(panel), us(query), panel / query);
+    }
     if args.len() != 4 {
-        eprintln!("usage: bench LISTING-PROGRAM WORK-FOLDER PICTURE, or bench --list");
+        eprintln!("usage: bench LISTING-PROGRAM WORK-FOLDER PICTURE, bench --list, or bench --panel");
         exit(2);
     }
     let gringo = Command::new("gringo").arg("--version").output().is_ok();
@@ -364,6 +370,7 @@ fn main() {
         .filter(|b| b.rows.len() == GRANTS)
         .map(|b| (b.name.as_str(), query(&t, b)))
         .collect();
+    let (panel, beside) = panel::measure();
     let (tried, worst) = worst::search(&t, &books::for_worst(), JOURNAL_GOAL);
 
     println!(
@@ -382,6 +389,10 @@ fn main() {
         let r = ratio(with / without, QUERY_GOAL, 2);
         println!("{:<43} {:>8} {:>8} {:>7}", name, us(*with), us(*without), r);
     }
+    println!();
+    println!("a panel on a book of 64 rows, at most, beside a query on the same book");
+    let r = ratio(panel / beside, PANEL_GOAL, 2);
+    println!("{:<43} {:>8} {:>8} {:>7}", "through the static library", us(panel), us(beside), r);
     println!();
     let panels = print_growth(&grow);
     println!("{}\n", picture::draw(&panels, &t.dir, Path::new(&args[3])));
@@ -406,6 +417,11 @@ fn main() {
         "a query on 64 rows at most 3 times one on an empty book",
         &ratios,
         QUERY_GOAL,
+    );
+    goal(
+        "a panel on 64 rows at most 2 times a query",
+        &[("through the static library", panel / beside)],
+        PANEL_GOAL,
     );
     let over = worst.iter().filter(|f| f.seconds > JOURNAL_GOAL).count();
     let text = "the worst journal of 65,536 bytes found at most 3 s";
