@@ -23,7 +23,7 @@ use Rattle.journal.specs.Texts.{Carries}
 use Rattle.journal.proofs.Ending.{all-end}
 
 -- the calls of a journal are a list of calls, each on the book and marks that the last one left
-calls-chain : {b b′ : Book} {m m′ s : List ℕ} {cs : List Call} → Calls b m s cs b′ m′ → Chain b m cs b′ m′
+pub calls-chain : {b b′ : Book} {m m′ s : List ℕ} {cs : List Call} → Calls b m s cs b′ m′ → Chain b m cs b′ m′
 calls-chain ended = chains.none
 calls-chain (then s r n l h x) = chains.then s r n h (calls-chain x)
 

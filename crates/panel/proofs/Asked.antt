@@ -7,7 +7,7 @@ use mathlib.Core.Logic.{_↔_, inl}
 use native.Mathlib.Omega.{arith}
 use borrow.Author.Tests.{le-leb}
 use lib.ListN.{length}
-use Rattle.sorts.specs.Numbers.{numberOf, speakers, packs, grants}
+use Rattle.sorts.specs.Numbers.{numberOf, speakers, principals, packs, grants}
 use Rattle.rows.specs.Numbering.{numberConcl}
 use Rattle.rows.specs.Form.{depth}
 use Rattle.rows.specs.Allowed.{AllowedConcl}
@@ -36,10 +36,13 @@ room b m M f sh = le-leb (length (M .N)) grants (omega (arith, shown b m M f sh 
 
 module _ (p : ℕ) (x : PackRight) (n : ℕ) where
   module _ (l : p < speakers) (k : n < packs) where
+    known : p < principals
+    known = omega (arith, l)
+
     allowed : (y : PackRight) → AllowedRecord (query (asked p y n))
     unfolding AllowedRecord AllowedConcl depth
-    allowed Run = ((inl l, inl k), omega arith)
-    allowed Export = ((inl l, inl k), omega arith)
+    allowed Run = ((inl known, inl k), omega arith)
+    allowed Export = ((inl known, inl k), omega arith)
 
     read-back : readRecord (queryFor p x n) ≡ got (query (asked p x n)) (length (queryFor p x n))
     read-back = ap readRecord (sym (append-nil (queryFor p x n))) ∙ record-read (query (asked p x n)) [] (allowed x)

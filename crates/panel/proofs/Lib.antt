@@ -2,3 +2,4 @@ pub mod Words
 pub mod Asked
 pub mod Showing
 pub mod Reached
+pub mod Unique

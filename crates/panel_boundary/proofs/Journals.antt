@@ -1,0 +1,33 @@
+-- The panel of a journal: it tells of the closed sets of the machine that was fed the journal's records, and there is one only.
+use Prim.Native.Nat.{ℕ, _<_}
+use mathlib.Core.Path.{_≡_, refl, sym, subst}
+use mathlib.Core.List.{List}
+use native.Mathlib.Omega.{arith}
+use Rattle.sorts.specs.Numbers.{speakers}
+use Rattle.book.specs.declared.Book.{Book}
+use Rattle.book.specs.Machine.{start}
+use Rattle.book.specs.Chains.{records, runs}
+use Rattle.journal.specs.Journals.{Leaves}
+use Rattle.journal.proofs.Listings.{calls-chain}
+use Rattle.journal.proofs.Leaving.{leaves-only}
+use Rattle.panel.specs.declared.PackRight.the-variants.{Run, Export}
+use Rattle.panel.specs.declared.Panel.{Panel}
+use Rattle.panel.specs.Panels.{PanelOf, Told}
+use Rattle.panel.proofs.Reached.{panel-reached}
+use Rattle.panel.proofs.Unique.{panel-only}
+use Rattle.panel_boundary.specs.Crossing.{JournalPanel, over, read}
+
+-- ON THE BOOK THAT A JOURNAL LEAVES both words tell of the closed sets.
+pub journal-told : (s : List ℕ) (b : Book) (m : List ℕ) (L : Leaves s b m) (p : ℕ) → p < speakers → (r : Panel) → PanelOf b m p r →
+    Told (runs start (records (L .calls))) p Run (r .run) × Told (runs start (records (L .calls))) p Export (r .export)
+journal-told s b m L p l r P = panel-reached (L .calls) b m (calls-chain (L .made)) p l r P
+
+-- A journal has one panel only for a principal.
+pub journal-only : (s : List ℕ) (p : ℕ) (r q : Panel) → JournalPanel s p r → JournalPanel s p q → r ≡ q
+journal-only s p r q (over l) (over h) = refl
+journal-only s p r q (over l) (read b m x h L P) = absurd (omega arith)
+journal-only s p r q (read b m x l L P) (over h) = absurd (omega arith)
+journal-only s p r q (read b m x l L P) (read c n y h K Q) =
+    let e = leaves-only s b c m n L K in
+    panel-only b m p x y P
+    (subst (λ (a : Book). PanelOf a m p y) (sym (e .0)) (subst (λ (z : List ℕ). PanelOf c z p y) (sym (e .1)) Q))
