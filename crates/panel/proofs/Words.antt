@@ -5,12 +5,11 @@ use mathlib.Core.List.{List}
 use native.Mathlib.Nat.{not-suc-le-zero, le-of-suc-le-suc, lt-of-lt-of-le, div-eq-of-lt, div-div-eq-div-mul, pow-succ'}
 use native.Mathlib.Omega.{arith}
 use lib.Pow.{pow-mono}
-use Rattle.sorts.specs.Numbers.{numberOf, speakers, packs, allMarks}
+use Rattle.sorts.specs.Numbers.{numberOf, packs}
 use Rattle.book.specs.declared.Answer.{Answer}
 use Rattle.book.specs.declared.Answer.the-variants.{Permitted, NotPermitted, Changed, Refused}
 use Rattle.book.specs.Calls.{answerAt}
 use Rattle.panel.specs.declared.PackRight.{PackRight}
-use Rattle.panel.specs.declared.PackRight.the-variants.{Run, Export}
 use Rattle.panel.specs.Panels.{conclusionOf, bit}
 use Rattle.panel.specs.inner.Words.{oneFor, packBit, WordFrom, WordOf}
 
@@ -41,11 +40,6 @@ one-small Permitted = omega arith
 one-small NotPermitted = omega arith
 one-small (Changed c) = omega arith
 one-small (Refused k) = omega arith
-
--- The number of a right over a pack is a mark's.
-pub number-mark : (p : ℕ) (x : PackRight) (n : ℕ) → p < speakers → n < packs → numberOf (conclusionOf p x n) < allMarks
-number-mark p Run n l k = omega arith
-number-mark p Export n l k = omega arith
 
 module _ (m : List ℕ) (p : ℕ) (x : PackRight) where
   -- no pack yet

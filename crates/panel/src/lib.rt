@@ -36,8 +36,8 @@ pub struct Panel {
 
 // The principal's right over pack n, as a closed conclusion.
 fn conclusion(p: u8, x: PackRight, n: u8) -> Concl
-    requires { ⌜ n < packs ⌝ }
-    ensures { λ c. ⌜ c ≡ conclusionOf p x n ⌝ }
+    requires { ⌜ (p < speakers) × (n < packs) ⌝ }
+    ensures { λ c. ⌜ (c ≡ conclusionOf p x n) × (numberOf c < allMarks) ⌝ }
 {
     match x {
         PackRight::Run => Concl::Perm(Prin(p), Res::Run(Pack(n))),

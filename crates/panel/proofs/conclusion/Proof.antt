@@ -14,11 +14,11 @@ enum-told-2 c = search needs
 
 -- src/lib.rt:38:1
 returns : tie.Need-returns
-returns c = rw (c .enum-told .given .1)
+returns c = (rw (c .enum-told .given .1), search needs)
 
 -- src/lib.rt:38:1
 returns-2 : tie.Need-returns-2
-returns-2 c = rw (c .enum-told2 .given .1)
+returns-2 c = (rw (c .enum-told2 .given .1), search needs)
 
 pub conclusion-spec : {M : Type 1} → statement M
 conclusion-spec = tie.close (tie.spec enum-told enum-told-2 returns returns-2)

@@ -1,13 +1,12 @@
-use Prim.Native.Nat.{_-_, _≤_, _<_}
-use mathlib.Core.Path.{sym, ap, _∙_, subst}
+use Prim.Native.Nat.{_-_, _≤_}
+use mathlib.Core.Path.{ap, _∙_}
 use native.Mathlib.Omega.{arith}
-use lib.ListN.{length}
 use borrow.Author.Needs.{needs}
 use Rattle.sorts.specs.declared.Concl.{Concl}
 use Rattle.sorts.specs.Numbers.{numberOf, packs}
 use Rattle.book.specs.Calls.{answerAt}
 use Rattle.panel.specs.inner.Words.{oneFor, WordFrom}
-use Rattle.panel.proofs.Words.{one-small, number-mark, word-none, word-next, word-room, word-whole}
+use Rattle.panel.proofs.Words.{one-small, word-none, word-next, word-room, word-whole}
 use Rattle.panel.proofs.word.Statement.{statement}
 use Rattle.panel.proofs.word.Tie as tie
 use Rattle.panel.proofs.word.Reads as reads
@@ -35,11 +34,11 @@ mul-w c = omega (arith, word-room (c .before .before .before .args .marks .now) 
 
 -- src/lib.rt:71:25
 conclusion-requires : tie.Need-conclusion-requires Inv-loop μ-loop
-conclusion-requires c κs = omega (arith, c .before .loop .inv .0)
+conclusion-requires c κs = (search needs, omega (arith, c .before .loop .inv .0))
 
 -- src/lib.rt:71:21
 one-requires : tie.Need-one-requires Inv-loop μ-loop
-one-requires c κs = subst (λ (e : Concl). numberOf e < length (c .before .before .before .before .args .marks .now)) (sym (c .conclusion .ensures)) (omega (arith, number-mark (c .before .before .before .before .args .p) (c .before .before .before .before .args .x) (c .before .before .loop .n - 1) (search needs) (search needs), c .before .before .before .before .pre .1))
+one-requires c κs = omega (arith, c .conclusion .ensures .1, c .before .before .before .before .pre .1)
 
 -- src/lib.rt:71:13
 add-w : tie.Need-add-w Inv-loop μ-loop
@@ -51,7 +50,7 @@ loop-less c = search needs
 
 -- src/lib.rt:69:5
 loop-again : tie.Need-loop-again Inv-loop μ-loop
-loop-again c = (omega (arith, c .before .before .before .loop .inv .0), word-next (c .before .before .before .before .before .args .marks .now) (c .before .before .before .before .before .args .p) (c .before .before .before .before .before .args .x) (c .before .before .before .loop .n) (c .before .before .before .loop .w) (search needs) (c .before .before .before .loop .inv .0) (c .before .before .before .loop .inv .1) (c .one .result) (c .one .ensures ∙ ap (λ (e : Concl). oneFor (answerAt (c .before .before .before .before .before .args .marks .now) (numberOf e))) (c .before .conclusion .ensures)))
+loop-again c = (omega (arith, c .before .before .before .loop .inv .0), word-next (c .before .before .before .before .before .args .marks .now) (c .before .before .before .before .before .args .p) (c .before .before .before .before .before .args .x) (c .before .before .before .loop .n) (c .before .before .before .loop .w) (search needs) (c .before .before .before .loop .inv .0) (c .before .before .before .loop .inv .1) (c .one .result) (c .one .ensures ∙ ap (λ (e : Concl). oneFor (answerAt (c .before .before .before .before .before .args .marks .now) (numberOf e))) (c .before .conclusion .ensures .0)))
 
 -- src/lib.rt:63:1
 returns : tie.Need-returns Inv-loop μ-loop
