@@ -17,11 +17,3 @@ use Rattle.journal.specs.Lines.{lettersIn}
 -- where the answer of the reader tells the kind, its letters are those that the record starts with
 pub told-letters : (s : List ℕ) (r : MarkOut) (k : Kind) (n : ℕ) → r ≡ asMark (readMark s) → r ≡ mark.Got k n → lettersOf k ≡ lettersIn s
 told-letters s r k n e f = mark-spelt s k n (mark-got (readMark s) k n (sym e ∙ f))
-
-pub two-long : (s : List ℕ) → length (take 2 s) ≤ 2
-two-long [] = omega arith
-two-long (a ∷ []) = omega arith
-two-long (a ∷ b ∷ s) = omega arith
-
-pub two-all : (s : List ℕ) → length s < 2 → s ≡ take 2 s
-two-all s l = sym (take-all 2 s (omega arith))

@@ -1,8 +1,9 @@
-pub mod Texts
-pub mod Digits
+pub mod Decimals
 pub mod Signs
 pub mod Letters
 pub mod Saying
+pub mod Joining
+pub mod Opening
 pub mod Ending
 pub mod Listings
 pub mod Reading

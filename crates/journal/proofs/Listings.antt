@@ -16,10 +16,10 @@ use Rattle.demands.proofs.Demand3.{demand-3}
 use Rattle.demands.proofs.Existence.{call-some}
 use Rattle.demands.proofs.Reached.{Reached, fresh-form, fresh-shows, fresh-reached, reached-after}
 use Rattle.demands.proofs.Unique.{no-choice}
-use Rattle.journal.specs.declared.text.Text.{Text}
+use Rattle.journal.specs.declared.lines.Line.{Line}
 use Rattle.journal.specs.Journals.{restAfter, Calls, ended, then, Listed, over, read, recordLines, Told, Follows, Finished}
 use Rattle.journal.specs.Lines.{lineOf, endOf}
-use Rattle.journal.specs.Texts.{Carries}
+use Rattle.journal.specs.Pieces.{Carries}
 use Rattle.journal.proofs.Ending.{all-end}
 
 -- the calls of a journal are a list of calls, each on the book and marks that the last one left
@@ -106,8 +106,8 @@ listed-only s ls ms (read cs b m l x) (read ds b′ m′ k y) =
     let e = calls-only x y in
     λ i. recordLines 1 (e .0 i) ++ (endOf (length (e .0 i)) (e .2 i) ∷ [])
 
--- So a text that is written after k lines is line k of the listing.
-pub follows-listed : (s : List ℕ) (ls : List (List ℕ)) (k : ℕ) (t : Text) → Listed s ls → Follows s k t → Carries t (getD ls k [])
+-- So a line that is written after k lines is line k of the listing.
+pub follows-listed : (s : List ℕ) (ls : List (List ℕ)) (k : ℕ) (t : Line) → Listed s ls → Follows s k t → Carries t (getD ls k [])
 follows-listed s ls k t L F = subst (λ (x : List (List ℕ)). Carries t (getD x k [])) (listed-only s (F .lines) ls (F .listed) L) (F .holds)
 
 -- each call gives a line

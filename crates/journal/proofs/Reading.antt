@@ -15,9 +15,9 @@ use Rattle.book.specs.Calls.{Called}
 use Rattle.book.specs.Chains.{Call, freshBook, freshMarks}
 use Rattle.demands.proofs.Reached.{Reached, fresh-reached, reached-after}
 use Rattle.journal.specs.declared.Stepped.{Stepped}
-use Rattle.journal.specs.declared.text.Text.{Text}
+use Rattle.journal.specs.declared.lines.Line.{Line}
 use Rattle.journal.specs.Journals.{restAfter, Calls, ended, then, nextPlace, Steps, Follows, Finished, Listed, over, read, recordLines}
-use Rattle.journal.specs.Texts.{Carries}
+use Rattle.journal.specs.Pieces.{Carries}
 use Rattle.journal.specs.Lines.{lineOf, endOf, refusedLine}
 use Rattle.journal.proofs.Listings.{rest-none, rest-some, calls-from, lines-count, line-at}
 
@@ -25,7 +25,7 @@ use Rattle.journal.proofs.Listings.{rest-none, rest-some, calls-from, l
 pub call-rest : {b : Book} {m : List ℕ} (s : List ℕ) (at : ℕ) {r : Answered} {n : List ℕ} → Called b m (take (length s - at) (drop at s)) r n → Called b m (drop at s) r n
 call-rest {b} {m} s at {r} {n} h = subst (λ (x : List ℕ). Called b m x r n) (take-all (length s - at) (drop at s) (omega (arith, length-drop at s))) h
 
-pub line-rest : (n : ℕ) (s : List ℕ) (at : ℕ) (a : Answer) {t : Text} → Carries t (lineOf n (take (length s - at) (drop at s)) a) → Carries t (lineOf n (drop at s) a)
+pub line-rest : (n : ℕ) (s : List ℕ) (at : ℕ) (a : Answer) {t : Line} → Carries t (lineOf n (take (length s - at) (drop at s)) a) → Carries t (lineOf n (drop at s) a)
 line-rest n s at a {t} h = subst (λ (x : List ℕ). Carries t (lineOf n x a)) (take-all (length s - at) (drop at s) (omega (arith, length-drop at s))) h
 
 module _ (s : List ℕ) (at used : ℕ) where
@@ -137,7 +137,7 @@ module _ (s : List ℕ) {b : Book} {m : List ℕ} (at n : ℕ) (R : Read s b m a
     listing-count = omega (arith, length-append (recordLines 1 (R .calls)) (endOf (length (R .calls)) m ∷ []), lines-count 1 (R .calls), R .count)
 
     -- and the last line is the one after those before
-    pub end-follows : (t : Text) → Carries t (endOf n m) → Follows s n t
+    pub end-follows : (t : Line) → Carries t (endOf n m) → Follows s n t
     end-follows t e =
         record {
           lines = _;
@@ -153,7 +153,7 @@ module _ (s : List ℕ) {b : Book} {m : List ℕ} (at n : ℕ) (R : Read s b m a
     read-ran k e = record { lines = _; listed = listing; count = listing-count ∙ sym e }
 
 -- a journal that is too long is refused whole
-pub over-follows : (s : List ℕ) (k : ℕ) (t : Text) → 65536 < length s → k ≡ 0 → Carries t (refusedLine 8) → Follows s k t
+pub over-follows : (s : List ℕ) (k : ℕ) (t : Line) → 65536 < length s → k ≡ 0 → Carries t (refusedLine 8) → Follows s k t
 over-follows s k t l e h =
     record { lines = _; listed = over (omega arith); within = omega (arith, e); holds = subst (λ (i : ℕ). Carries t (getD (refusedLine 8 ∷ []) i [])) (sym e) h }
 

@@ -66,8 +66,11 @@ module _ (z : ℤ) (f : SFits w32 z) where
         × Fits w64 (natAbs (toZ w64 (ofZ w64 (pos 0 -ℤ toZ w64 (ofZ w64 (toZ w32 (ofZ w32 z)))))))
     opposite-cast = subst (λ (x : ℤ). T (nonNeg x) × Fits w64 (natAbs x)) (sym opposite-read) (tt, abs-fits)
 
-    pub minus-signed : signed z ≡ 45 ∷ decimal (natAbs (toZ w64 (ofZ w64 (pos 0 -ℤ toZ w64 (ofZ w64 (toZ w32 (ofZ w32 z)))))))
-    minus-signed = signed-minus z below ∙ ap (λ (n : ℕ). 45 ∷ decimal n) (sym (ap natAbs opposite-read))
+    pub minus-signed : signed z ≡ 45 ∷ decimal (natAbs z)
+    minus-signed = signed-minus z below
+
+    pub minus-size : natAbs (toZ w64 (ofZ w64 (pos 0 -ℤ toZ w64 (ofZ w64 (toZ w32 (ofZ w32 z)))))) ≡ natAbs z
+    minus-size = ap natAbs opposite-read
 
   module _ (l : ltZ (toZ w32 (ofZ w32 z)) (pos 0) ≡ false) where
     above : ltZ z (pos 0) ≡ false
@@ -76,5 +79,8 @@ module _ (z : ℤ) (f : SFits w32 z) where
     pub same-cast : T (nonNeg (toZ w32 (ofZ w32 z))) × Fits w64 (natAbs (toZ w32 (ofZ w32 z)))
     same-cast = subst (λ (x : ℤ). T (nonNeg x) × Fits w64 (natAbs x)) (sym read-32) (plus-sign z above, abs-fits)
 
-    pub plus-signed : signed z ≡ 43 ∷ decimal (natAbs (toZ w32 (ofZ w32 z)))
-    plus-signed = signed-plus z above ∙ ap (λ (n : ℕ). 43 ∷ decimal n) (sym (ap natAbs read-32))
+    pub plus-signed : signed z ≡ 43 ∷ decimal (natAbs z)
+    plus-signed = signed-plus z above
+
+    pub plus-size : natAbs (toZ w32 (ofZ w32 z)) ≡ natAbs z
+    plus-size = ap natAbs read-32

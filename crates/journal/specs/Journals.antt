@@ -14,9 +14,9 @@ use Rattle.book.specs.Calls.{Called}
 use Rattle.book.specs.Chains.{Call, freshBook, freshMarks}
 use Rattle.demands.specs.Demands.{Demand3}
 use Rattle.journal.specs.declared.Stepped.{Stepped}
-use Rattle.journal.specs.declared.text.Text.{Text}
+use Rattle.journal.specs.declared.lines.Line.{Line}
 use Rattle.journal.specs.Lines.{lineOf, endOf, refusedLine}
-use Rattle.journal.specs.Texts.{Carries}
+use Rattle.journal.specs.Pieces.{Carries}
 
 -- "One record may be followed by others; the answer carries the bytes used." "Refusals 1 to 5 end the reading": they use no
 -- byte. What is left to read of a journal s after a record of it.
@@ -82,9 +82,9 @@ pub record Steps (b : Book) (m s : List ℕ) (at n : ℕ) (r : Stepped) (m′ : 
   pub line : Carries (r .line) (lineOf n (drop at s) (r .answered .answer))
   pub next : r .next ≡ nextPlace (length s) at (r .answered .used)
 
--- DEMANDED of a text that is written after k lines: it is line k, counted from 0, of the listing of s. (A journal has one listing:
+-- DEMANDED of a line that is written after k lines: its pieces, joined, are line k, counted from 0, of the listing of s. (A journal has one listing:
 -- theorems `listed-some` and `listed-only`.)
-pub record Follows (s : List ℕ) (k : ℕ) (t : Text) : Type 0 where
+pub record Follows (s : List ℕ) (k : ℕ) (t : Line) : Type 0 where
   pub lines : List (List ℕ)
   pub listed : Listed s lines
   pub within : k < length lines

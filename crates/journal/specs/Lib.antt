@@ -1,4 +1,3 @@
 pub mod Lines
-pub mod Texts
+pub mod Pieces
 pub mod Journals
-pub mod inner

@@ -1,10 +1,11 @@
 // The listing of a journal: its records, one after another, and the line of each.
+pub mod digits;
 pub mod lines;
-pub mod text;
+pub mod pieces;
 
 use book::Answered;
 use book::Book;
-use text::Text;
+use lines::Line;
 ghost use mathlib.Core.Path.{_≡_};
 ghost use Prim.Native.Nat.{_≤_};
 ghost use lib.Dec.{ltb};
@@ -25,7 +26,7 @@ pub fn over(n: usize) -> bool
 // What the call on a record answered, the record's line, and where the next record starts.
 pub struct Stepped {
     pub answered: Answered,
-    pub line: Text,
+    pub line: Line,
     pub next: usize,
 }
 

@@ -1,0 +1,53 @@
+-- A call that answers with no refusal has read the record's kind.
+use Prim.Native.Nat.{ℕ, _-_}
+use mathlib.Core.Path.{_≡_, refl, sym, ap, _∙_, subst}
+use mathlib.Core.Logic.{⊎-elim}
+use mathlib.Core.List.{List}
+use native.Mathlib.Omega.{arith}
+use lib.ListN.{length, take, drop}
+use Rattle.reader.specs.declared.records.Kind.{Kind}
+use Rattle.ranges.specs.Bytes.{Outcome, got, refused, andThen}
+use Rattle.reader.specs.Records.{Record, readMark, readRecord}
+use Rattle.book.specs.declared.Book.{Book}
+use Rattle.book.specs.declared.Answered.{Answered}
+use Rattle.book.specs.declared.Answer.{Answer}
+use Rattle.book.specs.declared.Answer.the-variants.{Permitted, NotPermitted, Changed, Refused}
+use Rattle.book.specs.Machine.{State, acted, step}
+use Rattle.book.specs.Books.{BookForm}
+use Rattle.book.specs.Calls.{answerOf, Called}
+use Rattle.demands.proofs.Shown.{shows-some}
+use Rattle.journal.specs.Pieces.{Opened}
+
+-- a refusal says nothing of the kind
+refusal-opened : (s : List ℕ) (a : Answer) (k : ℕ) → a ≡ Refused k → Opened s a
+refusal-opened s a k e = subst (Opened s) (sym e) tt
+
+-- a kind that is not read is refused
+unread : (s : List ℕ) (j : ℕ) → readMark s ≡ refused j → readRecord s ≡ refused j
+unfolding readRecord
+unread s j e = rw e
+
+says-refused : (M : State) (s m n : List ℕ) (j : ℕ) → readMark s ≡ refused j → answerOf (step M s .says) m n ≡ Refused j
+unfolding step answerOf
+says-refused M s m n j e = ap (λ (o : Outcome Record). answerOf (acted M o .says) m n) (unread s j e)
+
+read-opened : (s : List ℕ) (k : Kind) (n : ℕ) → readMark s ≡ got k n → (a : Answer) → Opened s a
+read-opened s k n e (Changed c) = λ j f. let z : _≡_ {A = ℕ} 0 1 = cc in omega arith
+read-opened s k n e Permitted = λ j f. let z : _≡_ {A = ℕ} 0 1 = cc in omega arith
+read-opened s k n e NotPermitted = λ j f. let z : _≡_ {A = ℕ} 0 1 = cc in omega arith
+read-opened s k n e (Refused j) = tt
+
+pub called-opened : (b : Book) (m s : List ℕ) (r : Answered) (n : List ℕ) → Called b m s r n → Opened s (r .answer)
+called-opened b m s r n C = go (readMark s) refl
+  where
+    go : (o : Outcome Kind) → readMark s ≡ o → Opened s (r .answer)
+    go (got k i) e = read-opened s k i e (r .answer)
+    go (refused j) e =
+        ⊎-elim
+        (λ f. let w = shows-some b m f in refusal-opened s (r .answer) j (C .formed f (w .0) (w .1) .answer ∙ says-refused (w .0) s m n j e))
+        (λ g. refusal-opened s (r .answer) 9 (ap (λ (x : Answered). x .answer) (C .unformed g .0)))
+        (C .decided)
+
+-- of the part of a journal from a place on
+pub opened-rest : (b : Book) (m s : List ℕ) (at : ℕ) (r : Answered) (n : List ℕ) → Called b m (take (length s - at) (drop at s)) r n → Opened (take (length s - at) (drop at s)) (r .answer)
+opened-rest b m s at r n C = called-opened b m _ r n C

@@ -1,0 +1,40 @@
+use mathlib.Core.Path.{_≡_, sym, ap, _∙_}
+use Prim.Native.Nat.{ℕ, _-_}
+use mathlib.Core.List.{List, [], _∷_, _++_}
+use native.Mathlib.Omega.{arith}
+use lib.ListN.{getD}
+use Rattle.reader.specs.Records.{lettersOf}
+use Rattle.journal.proofs.Joining.{alone, each-at, each-next, each-past, getD-next, getD-second, net-first, net-next}
+use Rattle.journal.proofs.Saying.{net-as}
+use Rattle.journal.specs.Lines.{decimal, signed, space, newline, marksWord}
+use Rattle.journal.specs.Pieces.{netPieces, each, lastNumber, saidPieces, linePieces}
+use borrow.Author.Needs.{needs}
+use Rattle.journal.proofs.pieces.changed.Statement.{statement}
+use Rattle.journal.proofs.pieces.changed.Tie as tie
+use Rattle.journal.proofs.pieces.changed.Reads as reads
+use Rattle.journal.proofs.pieces.changed.Lts as lts
+use Rattle.journal.proofs.pieces.nets.Reads as nets-reads
+
+-- src/pieces.rt:82:9
+returns : tie.Need-returns
+returns c = search needs
+
+-- src/pieces.rt:85:9
+returns-2 : tie.Need-returns-2
+returns-2 c = search needs
+
+-- src/pieces.rt:87:13
+sub-nets : tie.Need-sub-nets
+sub-nets c = search needs
+
+-- src/pieces.rt:87:5
+nets-requires : tie.Need-nets-requires
+nets-requires c κs = search needs
+
+-- src/pieces.rt:78:1
+returns-3 : tie.Need-returns-3
+returns-3 c = (c .nets) .ensures ∙ sym (getD-second (lettersOf ((c .before .before .before .args) .k)) space (netPieces ((c .before .before .before .args) .c)) ((c .before .before .before .args) .i) ((c .before .before .if1) .left) ((c .before .if2) .left))
+
+pub changed-spec : {M : Type 1} → statement M
+changed-spec = tie.close (tie.spec returns returns-2 sub-nets nets-requires returns-3)
+

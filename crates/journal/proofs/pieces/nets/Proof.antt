@@ -1,0 +1,101 @@
+use lib.IntN.{ℤ}
+use mathlib.Core.Path.{_≡_, sym, ap, _∙_}
+use Prim.Native.Nat.{ℕ, _-_}
+use mathlib.Core.List.{List, [], _∷_, _++_}
+use native.Mathlib.Omega.{arith}
+use lib.ListN.{getD}
+use Rattle.journal.proofs.Joining.{alone, each-at, each-next, each-past, getD-next, getD-second, net-first, net-next}
+use Rattle.journal.proofs.Saying.{net-as}
+use Rattle.journal.specs.Lines.{decimal, signed, space, newline, marksWord}
+use Rattle.journal.specs.Pieces.{each, lastNumber, saidPieces, linePieces}
+use borrow.Author.Needs.{needs}
+use Rattle.journal.proofs.pieces.nets.Statement.{statement}
+use Rattle.journal.proofs.pieces.nets.Tie as tie
+use Rattle.journal.proofs.pieces.nets.Reads as reads
+use Rattle.journal.proofs.pieces.nets.Lts as lts
+use Rattle.journal.proofs.digits.count.Reads as count-reads
+use Rattle.journal.proofs.digits.digit.Reads as digit-reads
+use Rattle.journal.proofs.digits.sign.Reads as sign-reads
+use Rattle.journal.proofs.digits.size.Reads as size-reads
+use Rattle.journal.proofs.pieces.last_net.Reads as last-net-reads
+
+-- src/pieces.rt:63:9
+size-requires : tie.Need-size-requires
+size-requires c κs = search needs
+
+-- src/pieces.rt:64:9
+count-requires : tie.Need-count-requires
+count-requires c κs = search needs
+
+-- src/pieces.rt:66:28
+sign-requires : tie.Need-sign-requires
+sign-requires c κs = search needs
+
+-- src/pieces.rt:66:9
+returns : tie.Need-returns
+returns c = net-first ((c .before .before .before .before .before .before .before .before .args) .c .truths .net) _ _ (space ∷ (each (signed ((c .before .before .before .before .before .before .before .before .args) .c .sayings .net)) ++ (newline ∷ []))) ((c .before .before .before .before .before .before .before .before .args) .i) (net-as ((c .before .before .before .before .before .before .before .before .args) .c .truths .net) (search needs)) ((c .sign) .ensures) ((c .before .before .if1) .taken)
+
+-- src/pieces.rt:68:8
+sub-if2 : tie.Need-sub-if2
+sub-if2 c = search needs
+
+-- src/pieces.rt:69:48
+sub-digit : tie.Need-sub-digit
+sub-digit c = search needs
+
+-- src/pieces.rt:69:28
+digit-requires : tie.Need-digit-requires
+digit-requires c κs = search needs
+
+-- src/pieces.rt:69:9
+returns-2 : tie.Need-returns-2
+returns-2 c = alone ((c .digit) .ensures) ∙ sym (each-at (decimal ((c .before .before .before .before .size) .result)) (space ∷ (each (signed ((c .before .before .before .before .before .before .before .before .args) .c .sayings .net)) ++ (newline ∷ []))) ((c .before .before .before .before .before .before .before .before .args) .i - 1) (omega (arith, (c .before .if2) .taken, (c .before .before .before .count) .ensures))) ∙ net-next ((c .before .before .before .before .before .before .before .before .args) .c .truths .net) _ ((c .before .before .before .before .size) .result) (space ∷ (each (signed ((c .before .before .before .before .before .before .before .before .args) .c .sayings .net)) ++ (newline ∷ []))) ((c .before .before .before .before .before .before .before .before .args) .i) (net-as ((c .before .before .before .before .before .before .before .before .args) .c .truths .net) (search needs)) ((c .before .before .before .before .size) .ensures) ((c .before .before .if1) .left)
+
+-- src/pieces.rt:71:8
+sub-if3 : tie.Need-sub-if3
+sub-if3 c = search needs
+
+-- src/pieces.rt:72:9
+returns-3 : tie.Need-returns-3
+returns-3 c = sym (each-next (decimal ((c .before .before .before .before .size) .result)) space (each (signed ((c .before .before .before .before .before .before .before .before .args) .c .sayings .net)) ++ (newline ∷ [])) ((c .before .before .before .before .before .before .before .before .args) .i - 1) (omega (arith, (c .if3) .taken, (c .before .before .before .count) .ensures))) ∙ net-next ((c .before .before .before .before .before .before .before .before .args) .c .truths .net) _ ((c .before .before .before .before .size) .result) (space ∷ (each (signed ((c .before .before .before .before .before .before .before .before .args) .c .sayings .net)) ++ (newline ∷ []))) ((c .before .before .before .before .before .before .before .before .args) .i) (net-as ((c .before .before .before .before .before .before .before .before .args) .c .truths .net) (search needs)) ((c .before .before .before .before .size) .ensures) ((c .before .before .if1) .left)
+
+-- src/pieces.rt:74:27
+sub-last-net : tie.Need-sub-last-net
+sub-last-net c = search needs
+
+-- src/pieces.rt:74:27
+sub-last-net-2 : tie.Need-sub-last-net-2
+sub-last-net-2 c = search needs
+
+-- src/pieces.rt:74:27
+sub-last-net-3 : tie.Need-sub-last-net-3
+sub-last-net-3 c = search needs
+
+-- src/pieces.rt:74:5
+last-net-requires : tie.Need-last-net-requires
+last-net-requires c κs = search needs
+
+-- src/pieces.rt:58:1
+returns-4 : tie.Need-returns-4
+returns-4 c = (c .last-net) .ensures ∙ ap (λ (z : ℤ). getD (each (signed z) ++ (newline ∷ [])) ((c .before .before .before .before .before .before .before .before .before .before .args) .i - 1 - (c .before .before .before .before .before .count) .result - 1) []) (net-as ((c .before .before .before .before .before .before .before .before .before .before .args) .c .sayings .net) (search needs)) ∙ sym (each-past (decimal ((c .before .before .before .before .before .before .size) .result)) space (each (signed ((c .before .before .before .before .before .before .before .before .before .before .args) .c .sayings .net)) ++ (newline ∷ [])) ((c .before .before .before .before .before .before .before .before .before .before .args) .i - 1) ((c .before .before .before .before .before .count) .result) ((c .before .before .before .before .before .count) .ensures) (omega (arith, (c .before .before .before .if2) .left, (c .before .before .if3) .left))) ∙ net-next ((c .before .before .before .before .before .before .before .before .before .before .args) .c .truths .net) _ ((c .before .before .before .before .before .before .size) .result) (space ∷ (each (signed ((c .before .before .before .before .before .before .before .before .before .before .args) .c .sayings .net)) ++ (newline ∷ []))) ((c .before .before .before .before .before .before .before .before .before .before .args) .i) (net-as ((c .before .before .before .before .before .before .before .before .before .before .args) .c .truths .net) (search needs)) ((c .before .before .before .before .before .before .size) .ensures) ((c .before .before .before .before .if1) .left)
+
+pub nets-spec : {M : Type 1} → statement M
+nets-spec =
+    tie.close
+    (tie.spec
+    size-requires
+    count-requires
+    sign-requires
+    returns
+    sub-if2
+    sub-digit
+    digit-requires
+    returns-2
+    sub-if3
+    returns-3
+    sub-last-net
+    sub-last-net-2
+    sub-last-net-3
+    last-net-requires
+    returns-4)
+

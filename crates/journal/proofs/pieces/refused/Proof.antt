@@ -1,0 +1,35 @@
+use mathlib.Core.Path.{_≡_, sym, ap, _∙_}
+use Prim.Native.Nat.{ℕ, _-_}
+use mathlib.Core.List.{List, [], _∷_, _++_}
+use native.Mathlib.Omega.{arith}
+use lib.ListN.{getD}
+use Rattle.journal.proofs.Joining.{alone, each-at, each-next, each-past, getD-next, getD-second, net-first, net-next}
+use Rattle.journal.proofs.Saying.{net-as}
+use Rattle.journal.specs.Lines.{decimal, signed, space, newline, marksWord, refusedWord}
+use Rattle.journal.specs.Pieces.{each, lastNumber, saidPieces, linePieces}
+use borrow.Author.Needs.{needs}
+use Rattle.journal.proofs.pieces.refused.Statement.{statement}
+use Rattle.journal.proofs.pieces.refused.Tie as tie
+use Rattle.journal.proofs.pieces.refused.Reads as reads
+use Rattle.journal.proofs.pieces.refused.Lts as lts
+use Rattle.journal.proofs.pieces.last_number.Reads as last-number-reads
+
+-- src/pieces.rt:111:9
+returns : tie.Need-returns
+returns c = search needs
+
+-- src/pieces.rt:113:29
+sub-last-number : tie.Need-sub-last-number
+sub-last-number c = search needs
+
+-- src/pieces.rt:113:5
+last-number-requires : tie.Need-last-number-requires
+last-number-requires c κs = search needs
+
+-- src/pieces.rt:107:1
+returns-2 : tie.Need-returns-2
+returns-2 c = (c .last-number) .ensures ∙ sym (getD-next refusedWord (lastNumber ((c .before .before .args) .k)) ((c .before .before .args) .i) ((c .before .if1) .left))
+
+pub refused-spec : {M : Type 1} → statement M
+refused-spec = tie.close (tie.spec returns sub-last-number last-number-requires returns-2)
+

@@ -1,2 +1,0 @@
--- Definitions that only carry the contracts of inner functions.
-pub mod Texts
