@@ -3,19 +3,20 @@ use Prim.Native.Nat.{ℕ, zero, suc, _+_, _-_, _<_}
 use mathlib.Core.Path.{_≡_, refl, sym, ap, _∙_}
 use mathlib.Core.List.{List, [], _∷_, _++_, append-assoc, append-nil}
 use native.Mathlib.Omega.{arith}
-use lib.ListN.{length, getD}
+use lib.ListN.{length, getD, length-append}
 use lib.IntN.{ℤ, pos, negsuc, natAbs}
 use Rattle.reader.specs.declared.records.Kind.{Kind}
 use Rattle.reader.specs.Records.{lettersOf}
 use Rattle.marks.specs.declared.Counts.{Counts}
 use Rattle.marks.specs.Counts.{ones}
 use Rattle.book.specs.declared.Answer.the-variants as answer
+use Rattle.journal.specs.declared.lines.Line.{Line}
 use Rattle.journal.specs.declared.lines.Line.the-variants as line
 use Rattle.journal.specs.declared.lines.Said.{Said}
 use Rattle.journal.specs.declared.lines.Said.the-variants as says
 use Rattle.book.specs.declared.Answer.{Answer}
 use Rattle.journal.specs.Lines.{decimal, signed, lettersIn, newline, said, lineOf, endOf, refusedLine, space, refusedWord, endWord, marksWord}
-use Rattle.journal.specs.Pieces.{each, saidPieces, linePieces, joined, Carries, Says}
+use Rattle.journal.specs.Pieces.{each, lastNumber, netPieces, saidPieces, linePieces, joined, Carries, Says}
 
 -- a byte alone
 pub alone : {a b : ℕ} → a ≡ b → a ∷ [] ≡ b ∷ []
@@ -141,3 +142,53 @@ end-joined n k m e = record { text = simp (joined-cons, each-joined, joined-none
 pub refused-joined : (k : ℕ) → Carries (line.Refused k) (refusedLine k)
 unfolding linePieces
 refused-joined k = record { text = simp (joined-cons, each-joined, joined-none) (sym (refused-is k)) }
+
+-- how many pieces
+each-length : (xs : List ℕ) → length (each xs) ≡ length xs
+unfolding each
+each-length [] = refl
+each-length (x ∷ xs) = ap suc (each-length xs)
+
+pub signed-length : (z : ℤ) → length (signed z) ≡ length (decimal (natAbs z)) + 1
+unfolding signed
+signed-length (pos n) = omega arith
+signed-length (negsuc n) = omega arith
+
+pub last-length : (xs : List ℕ) → length (each xs ++ (newline ∷ [])) ≡ length xs + 1
+last-length xs = omega (arith, length-append (each xs) (newline ∷ []), each-length xs)
+
+pub then-length : (xs : List ℕ) (p : List ℕ) (ps : List (List ℕ)) → length (each xs ++ (p ∷ ps)) ≡ length xs + 1 + length ps
+then-length xs p ps = omega (arith, length-append (each xs) (p ∷ ps), each-length xs)
+
+pub nets-length : (c : Counts) → length (netPieces c) ≡ length (signed (c .truths .net)) + length (signed (c .sayings .net)) + 2
+nets-length c =
+    omega (arith, then-length (signed (c .truths .net)) space (each (signed (c .sayings .net)) ++ (newline ∷ [])), last-length (signed (c .sayings .net)))
+
+module _ (s : Said) (k : Kind) where
+  pub changed-length : (c : Counts) → s ≡ says.Changed k c → length (saidPieces s) ≡ length (netPieces c) + 2
+  unfolding saidPieces
+  changed-length c e = rw e (omega arith)
+
+  pub permitted-length : s ≡ says.Permitted k → length (saidPieces s) ≡ 3
+  unfolding saidPieces
+  permitted-length e = rw e (omega arith)
+
+  pub not-permitted-length : s ≡ says.NotPermitted k → length (saidPieces s) ≡ 3
+  unfolding saidPieces
+  not-permitted-length e = rw e (omega arith)
+
+pub refusal-length : (s : Said) (k : ℕ) → s ≡ says.Refused k → length (saidPieces s) ≡ length (decimal k) + 2
+unfolding saidPieces
+refusal-length s k e = rw e (omega (arith, last-length (decimal k)))
+
+pub record-length : (l : Line) (n : ℕ) (s : Said) → l ≡ line.Record n s → length (linePieces l) ≡ length (decimal n) + 1 + length (saidPieces s)
+unfolding linePieces
+record-length l n s e = rw e (then-length (decimal n) space (saidPieces s))
+
+pub end-length : (l : Line) (n m : ℕ) → l ≡ line.End n m → length (linePieces l) ≡ length (decimal n) + length (decimal m) + 3
+unfolding linePieces
+end-length l n m e = rw e (omega (arith, then-length (decimal n) marksWord (lastNumber m), last-length (decimal m)))
+
+pub refused-length : (l : Line) (k : ℕ) → l ≡ line.Refused k → length (linePieces l) ≡ length (decimal k) + 2
+unfolding linePieces
+refused-length l k e = rw e (omega (arith, last-length (decimal k)))

@@ -2,6 +2,7 @@
 pub mod digits;
 pub mod lines;
 pub mod pieces;
+pub mod sizes;
 
 use book::Answered;
 use book::Book;

@@ -35,7 +35,7 @@ loop-again c = omega (arith, (c .before .loop) .inv, decimal-grows ((c .before .
 
 -- src/digits.rt:10:1
 returns : tie.Need-returns Inv-loop μ-loop
-returns c = omega (arith, (c .before .loop) .inv, ap (length {A = ℕ}) (decimal-one ((c .before .loop) .rest) (omega (arith, (c .loop-test) .left))))
+returns c = let e = ap (length {A = ℕ}) (decimal-one ((c .before .loop) .rest) (omega (arith, (c .loop-test) .left))) in (omega (arith, (c .before .loop) .inv, e), omega (arith, (c .before .loop) .inv, e, decimal-few ((c .before .before .args) .n) (search needs)))
 
 pub count-spec : {M : Type 1} → statement M
 count-spec = tie.close (tie.spec Inv-loop μ-loop loop-holds add-d loop-less loop-again returns)

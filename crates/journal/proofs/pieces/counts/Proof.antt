@@ -26,11 +26,11 @@ digit-requires c κs = search needs
 
 -- src/pieces.rt:148:9
 returns : tie.Need-returns
-returns c = alone ((c .digit) .ensures) ∙ sym (each-at (decimal ((c .before .before .before .args) .n)) (marksWord ∷ (lastNumber ((c .before .before .before .args) .marks))) ((c .before .before .before .args) .i) (omega (arith, (c .before .if1) .taken, (c .before .before .count) .ensures)))
+returns c = alone ((c .digit) .ensures) ∙ sym (each-at (decimal ((c .before .before .before .args) .n)) (marksWord ∷ (lastNumber ((c .before .before .before .args) .marks))) ((c .before .before .before .args) .i) (omega (arith, (c .before .if1) .taken, (c .before .before .count) .ensures .0)))
 
 -- src/pieces.rt:151:9
 returns-2 : tie.Need-returns-2
-returns-2 c = sym (each-next (decimal ((c .before .before .before .args) .n)) marksWord (lastNumber ((c .before .before .before .args) .marks)) ((c .before .before .before .args) .i) (omega (arith, (c .if2) .taken, (c .before .before .count) .ensures)))
+returns-2 c = sym (each-next (decimal ((c .before .before .before .args) .n)) marksWord (lastNumber ((c .before .before .before .args) .marks)) ((c .before .before .before .args) .i) (omega (arith, (c .if2) .taken, (c .before .before .count) .ensures .0)))
 
 -- src/pieces.rt:153:24
 sub-last-number : tie.Need-sub-last-number
@@ -42,7 +42,7 @@ last-number-requires c κs = search needs
 
 -- src/pieces.rt:143:1
 returns-3 : tie.Need-returns-3
-returns-3 c = (c .last-number) .ensures ∙ sym (each-past (decimal ((c .before .before .before .before .args) .n)) marksWord (lastNumber ((c .before .before .before .before .args) .marks)) ((c .before .before .before .before .args) .i) ((c .before .before .before .count) .result) ((c .before .before .before .count) .ensures) (omega (arith, (c .before .before .if1) .left, (c .before .if2) .left)))
+returns-3 c = (c .last-number) .ensures ∙ sym (each-past (decimal ((c .before .before .before .before .args) .n)) marksWord (lastNumber ((c .before .before .before .before .args) .marks)) ((c .before .before .before .before .args) .i) ((c .before .before .before .count) .result) ((c .before .before .before .count) .ensures .0) (omega (arith, (c .before .before .if1) .left, (c .before .if2) .left)))
 
 pub counts-spec : {M : Type 1} → statement M
 counts-spec =

@@ -25,15 +25,15 @@ digit-requires c κs = search needs
 
 -- src/pieces.rt:39:9
 returns : tie.Need-returns
-returns c = alone ((c .digit) .ensures) ∙ sym (each-at (decimal ((c .before .before .before .args) .n)) (newline ∷ []) ((c .before .before .before .args) .i) (omega (arith, (c .before .if1) .taken, (c .before .before .count) .ensures)))
+returns c = alone ((c .digit) .ensures) ∙ sym (each-at (decimal ((c .before .before .before .args) .n)) (newline ∷ []) ((c .before .before .before .args) .i) (omega (arith, (c .before .if1) .taken, (c .before .before .count) .ensures .0)))
 
 -- src/pieces.rt:42:9
 returns-2 : tie.Need-returns-2
-returns-2 c = sym (each-next (decimal ((c .before .before .before .args) .n)) newline [] ((c .before .before .before .args) .i) (omega (arith, (c .if2) .taken, (c .before .before .count) .ensures)))
+returns-2 c = sym (each-next (decimal ((c .before .before .before .args) .n)) newline [] ((c .before .before .before .args) .i) (omega (arith, (c .if2) .taken, (c .before .before .count) .ensures .0)))
 
 -- src/pieces.rt:34:1
 returns-3 : tie.Need-returns-3
-returns-3 c = sym (each-past (decimal ((c .before .before .before .args) .n)) newline [] ((c .before .before .before .args) .i) ((c .before .before .count) .result) ((c .before .before .count) .ensures) (omega (arith, (c .before .if1) .left, (c .if2) .left)))
+returns-3 c = sym (each-past (decimal ((c .before .before .before .args) .n)) newline [] ((c .before .before .before .args) .i) ((c .before .before .count) .result) ((c .before .before .count) .ensures .0) (omega (arith, (c .before .if1) .left, (c .if2) .left)))
 
 pub last-number-spec : {M : Type 1} → statement M
 last-number-spec = tie.close (tie.spec count-requires digit-requires returns returns-2 returns-3)

@@ -49,7 +49,7 @@ digit-requires c κs = search needs
 
 -- src/pieces.rt:69:9
 returns-2 : tie.Need-returns-2
-returns-2 c = alone ((c .digit) .ensures) ∙ sym (each-at (decimal ((c .before .before .before .before .size) .result)) (space ∷ (each (signed ((c .before .before .before .before .before .before .before .before .args) .c .sayings .net)) ++ (newline ∷ []))) ((c .before .before .before .before .before .before .before .before .args) .i - 1) (omega (arith, (c .before .if2) .taken, (c .before .before .before .count) .ensures))) ∙ net-next ((c .before .before .before .before .before .before .before .before .args) .c .truths .net) _ ((c .before .before .before .before .size) .result) (space ∷ (each (signed ((c .before .before .before .before .before .before .before .before .args) .c .sayings .net)) ++ (newline ∷ []))) ((c .before .before .before .before .before .before .before .before .args) .i) (net-as ((c .before .before .before .before .before .before .before .before .args) .c .truths .net) (search needs)) ((c .before .before .before .before .size) .ensures) ((c .before .before .if1) .left)
+returns-2 c = alone ((c .digit) .ensures) ∙ sym (each-at (decimal ((c .before .before .before .before .size) .result)) (space ∷ (each (signed ((c .before .before .before .before .before .before .before .before .args) .c .sayings .net)) ++ (newline ∷ []))) ((c .before .before .before .before .before .before .before .before .args) .i - 1) (omega (arith, (c .before .if2) .taken, (c .before .before .before .count) .ensures .0))) ∙ net-next ((c .before .before .before .before .before .before .before .before .args) .c .truths .net) _ ((c .before .before .before .before .size) .result) (space ∷ (each (signed ((c .before .before .before .before .before .before .before .before .args) .c .sayings .net)) ++ (newline ∷ []))) ((c .before .before .before .before .before .before .before .before .args) .i) (net-as ((c .before .before .before .before .before .before .before .before .args) .c .truths .net) (search needs)) ((c .before .before .before .before .size) .ensures) ((c .before .before .if1) .left)
 
 -- src/pieces.rt:71:8
 sub-if3 : tie.Need-sub-if3
@@ -57,7 +57,7 @@ sub-if3 c = search needs
 
 -- src/pieces.rt:72:9
 returns-3 : tie.Need-returns-3
-returns-3 c = sym (each-next (decimal ((c .before .before .before .before .size) .result)) space (each (signed ((c .before .before .before .before .before .before .before .before .args) .c .sayings .net)) ++ (newline ∷ [])) ((c .before .before .before .before .before .before .before .before .args) .i - 1) (omega (arith, (c .if3) .taken, (c .before .before .before .count) .ensures))) ∙ net-next ((c .before .before .before .before .before .before .before .before .args) .c .truths .net) _ ((c .before .before .before .before .size) .result) (space ∷ (each (signed ((c .before .before .before .before .before .before .before .before .args) .c .sayings .net)) ++ (newline ∷ []))) ((c .before .before .before .before .before .before .before .before .args) .i) (net-as ((c .before .before .before .before .before .before .before .before .args) .c .truths .net) (search needs)) ((c .before .before .before .before .size) .ensures) ((c .before .before .if1) .left)
+returns-3 c = sym (each-next (decimal ((c .before .before .before .before .size) .result)) space (each (signed ((c .before .before .before .before .before .before .before .before .args) .c .sayings .net)) ++ (newline ∷ [])) ((c .before .before .before .before .before .before .before .before .args) .i - 1) (omega (arith, (c .if3) .taken, (c .before .before .before .count) .ensures .0))) ∙ net-next ((c .before .before .before .before .before .before .before .before .args) .c .truths .net) _ ((c .before .before .before .before .size) .result) (space ∷ (each (signed ((c .before .before .before .before .before .before .before .before .args) .c .sayings .net)) ++ (newline ∷ []))) ((c .before .before .before .before .before .before .before .before .args) .i) (net-as ((c .before .before .before .before .before .before .before .before .args) .c .truths .net) (search needs)) ((c .before .before .before .before .size) .ensures) ((c .before .before .if1) .left)
 
 -- src/pieces.rt:74:27
 sub-last-net : tie.Need-sub-last-net
@@ -77,7 +77,7 @@ last-net-requires c κs = search needs
 
 -- src/pieces.rt:58:1
 returns-4 : tie.Need-returns-4
-returns-4 c = (c .last-net) .ensures ∙ ap (λ (z : ℤ). getD (each (signed z) ++ (newline ∷ [])) ((c .before .before .before .before .before .before .before .before .before .before .args) .i - 1 - (c .before .before .before .before .before .count) .result - 1) []) (net-as ((c .before .before .before .before .before .before .before .before .before .before .args) .c .sayings .net) (search needs)) ∙ sym (each-past (decimal ((c .before .before .before .before .before .before .size) .result)) space (each (signed ((c .before .before .before .before .before .before .before .before .before .before .args) .c .sayings .net)) ++ (newline ∷ [])) ((c .before .before .before .before .before .before .before .before .before .before .args) .i - 1) ((c .before .before .before .before .before .count) .result) ((c .before .before .before .before .before .count) .ensures) (omega (arith, (c .before .before .before .if2) .left, (c .before .before .if3) .left))) ∙ net-next ((c .before .before .before .before .before .before .before .before .before .before .args) .c .truths .net) _ ((c .before .before .before .before .before .before .size) .result) (space ∷ (each (signed ((c .before .before .before .before .before .before .before .before .before .before .args) .c .sayings .net)) ++ (newline ∷ []))) ((c .before .before .before .before .before .before .before .before .before .before .args) .i) (net-as ((c .before .before .before .before .before .before .before .before .before .before .args) .c .truths .net) (search needs)) ((c .before .before .before .before .before .before .size) .ensures) ((c .before .before .before .before .if1) .left)
+returns-4 c = (c .last-net) .ensures ∙ ap (λ (z : ℤ). getD (each (signed z) ++ (newline ∷ [])) ((c .before .before .before .before .before .before .before .before .before .before .args) .i - 1 - (c .before .before .before .before .before .count) .result - 1) []) (net-as ((c .before .before .before .before .before .before .before .before .before .before .args) .c .sayings .net) (search needs)) ∙ sym (each-past (decimal ((c .before .before .before .before .before .before .size) .result)) space (each (signed ((c .before .before .before .before .before .before .before .before .before .before .args) .c .sayings .net)) ++ (newline ∷ [])) ((c .before .before .before .before .before .before .before .before .before .before .args) .i - 1) ((c .before .before .before .before .before .count) .result) ((c .before .before .before .before .before .count) .ensures .0) (omega (arith, (c .before .before .before .if2) .left, (c .before .before .if3) .left))) ∙ net-next ((c .before .before .before .before .before .before .before .before .before .before .args) .c .truths .net) _ ((c .before .before .before .before .before .before .size) .result) (space ∷ (each (signed ((c .before .before .before .before .before .before .before .before .before .before .args) .c .sayings .net)) ++ (newline ∷ []))) ((c .before .before .before .before .before .before .before .before .before .before .args) .i) (net-as ((c .before .before .before .before .before .before .before .before .before .before .args) .c .truths .net) (search needs)) ((c .before .before .before .before .before .before .size) .ensures) ((c .before .before .before .before .if1) .left)
 
 pub nets-spec : {M : Type 1} → statement M
 nets-spec =

@@ -26,11 +26,11 @@ digit-requires c κs = search needs
 
 -- src/pieces.rt:134:9
 returns : tie.Need-returns
-returns c = alone ((c .digit) .ensures) ∙ sym (each-at (decimal ((c .before .before .before .args) .n)) (space ∷ (saidPieces ((c .before .before .before .args) .s))) ((c .before .before .before .args) .i) (omega (arith, (c .before .if1) .taken, (c .before .before .count) .ensures)))
+returns c = alone ((c .digit) .ensures) ∙ sym (each-at (decimal ((c .before .before .before .args) .n)) (space ∷ (saidPieces ((c .before .before .before .args) .s))) ((c .before .before .before .args) .i) (omega (arith, (c .before .if1) .taken, (c .before .before .count) .ensures .0)))
 
 -- src/pieces.rt:137:9
 returns-2 : tie.Need-returns-2
-returns-2 c = sym (each-next (decimal ((c .before .before .before .args) .n)) space (saidPieces ((c .before .before .before .args) .s)) ((c .before .before .before .args) .i) (omega (arith, (c .if2) .taken, (c .before .before .count) .ensures)))
+returns-2 c = sym (each-next (decimal ((c .before .before .before .args) .n)) space (saidPieces ((c .before .before .before .args) .s)) ((c .before .before .before .args) .i) (omega (arith, (c .if2) .taken, (c .before .before .count) .ensures .0)))
 
 -- src/pieces.rt:139:13
 sub-said : tie.Need-sub-said
@@ -42,7 +42,7 @@ said-requires c κs = search needs
 
 -- src/pieces.rt:129:1
 returns-3 : tie.Need-returns-3
-returns-3 c = (c .said) .ensures ∙ sym (each-past (decimal ((c .before .before .before .before .args) .n)) space (saidPieces ((c .before .before .before .before .args) .s)) ((c .before .before .before .before .args) .i) ((c .before .before .before .count) .result) ((c .before .before .before .count) .ensures) (omega (arith, (c .before .before .if1) .left, (c .before .if2) .left)))
+returns-3 c = (c .said) .ensures ∙ sym (each-past (decimal ((c .before .before .before .before .args) .n)) space (saidPieces ((c .before .before .before .before .args) .s)) ((c .before .before .before .before .args) .i) ((c .before .before .before .count) .result) ((c .before .before .before .count) .ensures .0) (omega (arith, (c .before .before .if1) .left, (c .before .if2) .left)))
 
 pub record-spec : {M : Type 1} → statement M
 record-spec =
