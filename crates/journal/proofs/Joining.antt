@@ -1,12 +1,13 @@
 -- The pieces of a line: which stands where, and that joined they are the line.
 use Prim.Native.Nat.{ℕ, zero, suc, _+_, _-_, _<_}
-use mathlib.Core.Path.{_≡_, refl, sym, ap, _∙_}
+use mathlib.Core.Path.{_≡_, refl, sym, ap, _∙_, subst}
 use mathlib.Core.List.{List, [], _∷_, _++_, append-assoc, append-nil}
 use native.Mathlib.Omega.{arith}
 use lib.ListN.{length, getD, length-append}
 use lib.IntN.{ℤ, pos, negsuc, natAbs}
 use Rattle.reader.specs.declared.records.Kind.{Kind}
 use Rattle.reader.specs.Records.{lettersOf}
+use Rattle.exact.proofs.Letters.{two-letters}
 use Rattle.marks.specs.declared.Counts.{Counts}
 use Rattle.marks.specs.Counts.{ones}
 use Rattle.book.specs.declared.Answer.the-variants as answer
@@ -192,3 +193,44 @@ end-length l n m e = rw e (omega (arith, then-length (decimal n) marksWord (last
 pub refused-length : (l : Line) (k : ℕ) → l ≡ line.Refused k → length (linePieces l) ≡ length (decimal k) + 2
 unfolding linePieces
 refused-length l k e = rw e (omega (arith, last-length (decimal k)))
+
+-- No piece of a line is empty: what is past a line's last piece, and that alone, is no byte.
+Full : List (List ℕ) → Type 0
+Full ps = (i : ℕ) → i < length ps → getD ps i [] ≡ [] → ⊥
+
+none-full : Full []
+unfolding Full
+none-full i l e = omega arith
+
+cons-full : (b : ℕ) (bs : List ℕ) (ps : List (List ℕ)) → Full ps → Full ((b ∷ bs) ∷ ps)
+unfolding Full
+cons-full b bs ps F zero l e = let z : _≡_ {A = ℕ} 0 1 = cc in omega arith
+cons-full b bs ps F (suc i) l e = F i (omega arith) e
+
+each-full : (xs : List ℕ) (ps : List (List ℕ)) → Full ps → Full (each xs ++ ps)
+unfolding each
+each-full [] ps F = F
+each-full (x ∷ xs) ps F = cons-full x [] _ (each-full xs ps F)
+
+letters-full : (k : Kind) (ps : List (List ℕ)) → Full ps → Full (lettersOf k ∷ ps)
+letters-full k ps F = subst (λ (x : List ℕ). Full (x ∷ ps)) (sym (two-letters k)) (cons-full _ _ ps F)
+
+last-full : (n : ℕ) → Full (lastNumber n)
+last-full n = each-full (decimal n) (newline ∷ []) (cons-full _ _ [] none-full)
+
+said-full : (s : Said) → Full (saidPieces s)
+unfolding saidPieces
+said-full (says.Changed k c) = letters-full k _ (cons-full _ _ _ (each-full _ _ (cons-full _ _ _ (each-full _ _ (cons-full _ _ [] none-full)))))
+said-full (says.Permitted k) = letters-full k _ (cons-full _ _ _ (cons-full _ _ [] none-full))
+said-full (says.NotPermitted k) = letters-full k _ (cons-full _ _ _ (cons-full _ _ [] none-full))
+said-full (says.Refused k) = cons-full _ _ _ (last-full k)
+
+line-full : (l : Line) → Full (linePieces l)
+unfolding linePieces
+line-full (line.Record n s) = each-full (decimal n) _ (cons-full _ _ _ (said-full s))
+line-full (line.End n m) = cons-full _ _ _ (each-full (decimal n) _ (cons-full _ _ _ (last-full m)))
+line-full (line.Refused k) = cons-full _ _ _ (last-full k)
+
+pub piece-some : (l : Line) (i : ℕ) → i < length (linePieces l) → getD (linePieces l) i [] ≡ [] → ⊥
+unfolding Full
+piece-some l i h e = line-full l i h e

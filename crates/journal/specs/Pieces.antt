@@ -1,7 +1,8 @@
 -- The pieces of a line: what is written at once, in order.
-use Prim.Native.Nat.{ℕ}
+use Prim.Native.Nat.{ℕ, _<_}
 use mathlib.Core.Path.{_≡_}
 use mathlib.Core.List.{List, [], _∷_, _++_}
+use lib.ListN.{length}
 use Rattle.ranges.specs.Bytes.{refused}
 use Rattle.reader.specs.Records.{readMark, lettersOf}
 use Rattle.marks.specs.declared.Counts.{Counts}
@@ -80,3 +81,7 @@ Opened s (answer.Refused k) = Unit {0}
 -- What a line says of the answer a to the record that s starts with: the letters of its kind are those of s.
 abbrev pub Says : List ℕ → Answer → Said → Type 0
 Says s a r = joined (saidPieces r) ≡ said s a ++ newline
+
+-- Piece i of a line is one of its pieces, and i + 1 is a number of the machine.
+abbrev pub Next : Line → ℕ → Type 0
+Next l i = (i < length (linePieces l)) × (length (linePieces l) < 18446744073709551616)

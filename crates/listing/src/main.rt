@@ -1,7 +1,11 @@
 // Reads a journal from standard input, and writes the listing to standard output. What fails is told on standard error.
 use book::Book;
 use journal::lines;
-use journal::text::Text;
+use journal::lines::Line;
+use journal::pieces;
+use journal::pieces::Piece;
+use journal::pieces::Word;
+use journal::sizes;
 use libc::EINTR;
 use libc::STDERR_FILENO;
 use libc::STDIN_FILENO;
@@ -9,11 +13,13 @@ use libc::STDOUT_FILENO;
 use sorts::Number;
 ghost use mathlib.Core.Bool.{true, false, not};
 ghost use mathlib.Core.Path.{_≡_};
+ghost use mathlib.Core.List.{[]};
 ghost use Prim.Native.Nat.{_+_, _<_, _≤_};
-ghost use lib.ListN.{length, take};
+ghost use lib.ListN.{length, take, getD};
 ghost use Rattle.book.specs.Chains.{freshMarks};
 ghost use Rattle.io.specs.Counts.{Counts};
 ghost use Rattle.journal.specs.Journals.{Follows, Finished};
+ghost use Rattle.journal.specs.Pieces.{Next, linePieces, wordBytes};
 ghost use Rattle.libc.specs.Io.{Moved};
 ghost use Rattle.listing.specs.Inputs.{Heard};
 
@@ -28,6 +34,12 @@ struct Input {
 // How many lines were handed to the output, and whether it took them all.
 struct Output {
     lines: usize,
+    open: bool,
+}
+
+// How many pieces of a line were handed to the output, and whether it took them all.
+struct Handed {
+    pieces: usize,
     open: bool,
 }
 
@@ -117,20 +129,83 @@ fn read_all(buf: &mut [u8]) -> Input
     i
 }
 
+// Writes the next piece of a line, where the output took those before it.
+fn put(h: Handed, l: Line, bytes: &[u8]) -> Handed
+    requires { ⌜ Next l (h .pieces) × (now bytes ≡ getD (linePieces l) (h .pieces) []) ⌝ }
+    ensures { λ r. ⌜ (r .pieces ≡ h .pieces + 1) × (h .open ≡ false → r .open ≡ false) ⌝ }
+{
+    let pieces = h.pieces + 1;
+    let open = h.open;
+    if !open {
+        return Handed {
+            pieces,
+            open: false,
+        };
+    }
+    let open = io::write_all(STDOUT_FILENO, bytes);
+    Handed { pieces, open }
+}
+
+// Writes a word that is the next piece of a line.
+fn put_word(h: Handed, l: Line, w: Word) -> Handed
+    requires { ⌜ Next l (h .pieces) × (wordBytes w ≡ getD (linePieces l) (h .pieces) []) ⌝ }
+    ensures { λ r. ⌜ (r .pieces ≡ h .pieces + 1) × (h .open ≡ false → r .open ≡ false) ⌝ }
+{
+    match w {
+        Word::Space => put(h, l, b" "),
+        Word::Newline => put(h, l, b"\n"),
+        Word::Permitted => put(h, l, b" permitted"),
+        Word::NotPermitted => put(h, l, b" not permitted"),
+        Word::Refused => put(h, l, b"refused "),
+        Word::End => put(h, l, b"end "),
+        Word::Marks => put(h, l, b" marks "),
+    }
+}
+
+// Writes the next piece of a line: a sign or a digit, the letters, or a word.
+fn put_piece(h: Handed, l: Line) -> Handed
+    requires { ⌜ Next l (h .pieces) ⌝ }
+    ensures { λ r. ⌜ (r .pieces ≡ h .pieces + 1) × (h .open ≡ false → r .open ≡ false) ⌝ }
+{
+    let p = pieces::piece_at(l, h.pieces);
+    match p {
+        Piece::Byte(b) => put(h, l, &[b]),
+        Piece::Letters(k) => put(h, l, &k.letters()),
+        Piece::Word(w) => put_word(h, l, w),
+        Piece::Past => h,
+    }
+}
+
+// Writes the pieces of a line, one after another.
+fn write_line(l: Line) -> Handed
+    ensures { λ r. ⌜ r .pieces ≡ length (linePieces l) ⌝ }
+{
+    let n = sizes::of_line(l);
+    let mut h = Handed {
+        pieces: 0,
+        open: true,
+    };
+    while h.pieces < n {
+        h = put_piece(h, l);
+    }
+    h
+}
+
 // Writes the next line of the listing of s, where the output took those before it.
-fn write(o: Output, s: &[u8], line: Text) -> Output
+fn write(o: Output, s: &[u8], line: Line) -> Output
     requires { ⌜ (o .lines ≤ 65536) × Follows (now s) (o .lines) line ⌝ }
     ensures { λ r. ⌜ (r .lines ≡ o .lines + 1) × (o .open ≡ false → r .open ≡ false) ⌝ }
 {
     let lines = o.lines + 1;
-    let bytes = line.bytes;
-    let n = line.len;
     let open = o.open;
     if !open {
         return Output { lines, open: false };
     }
-    let open = io::write_all(STDOUT_FILENO, &bytes[..n]);
-    Output { lines, open }
+    let h = write_line(line);
+    Output {
+        lines,
+        open: h.open,
+    }
 }
 
 // Reads a journal s record by record, from a fresh book, and writes a line for each, and the last line.

@@ -51,7 +51,7 @@ same-length c = search needs
 
 -- src/lib.rt:47:1
 returns : tie.Need-returns
-returns c = record { call = call-rest ((c .before .before .before .before .before .before .before .before .before .before .args) .s .now) ((c .before .before .before .before .before .before .before .before .before .before .args) .at) ((c .before .before .before .before .before .call) .ensures); line = line-rest ((c .before .before .before .before .before .before .before .before .before .before .args) .n) ((c .before .before .before .before .before .before .before .before .before .before .args) .s .now) ((c .before .before .before .before .before .before .before .before .before .before .args) .at) ((c .before .before .before .before .before .call) .result .answer) ((c .before .record-line) .ensures); next = (c .next-place) .ensures; }
+returns c = record { call = call-rest ((c .before .before .before .before .before .before .before .before .before .before .args) .s .now) ((c .before .before .before .before .before .before .before .before .before .before .args) .at) ((c .before .before .before .before .before .call) .ensures); line = line-rest ((c .before .before .before .before .before .before .before .before .before .before .args) .n) ((c .before .before .before .before .before .before .before .before .before .before .args) .s .now) ((c .before .before .before .before .before .before .before .before .before .before .args) .at) ((c .before .before .before .before .before .call) .result .answer) ((c .before .record-line) .ensures); next = (c .next-place) .ensures }
 
 pub step-spec : {M : Type 1} → statement M
 step-spec =
@@ -68,4 +68,3 @@ step-spec =
     next-place-requires
     same-length
     returns)
-

@@ -39,4 +39,3 @@ returns c = let e = ap (length {A = ℕ}) (decimal-one ((c .before .loop) .rest)
 
 pub count-spec : {M : Type 1} → statement M
 count-spec = tie.close (tie.spec Inv-loop μ-loop loop-holds add-d loop-less loop-again returns)
-

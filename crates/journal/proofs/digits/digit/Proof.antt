@@ -63,4 +63,3 @@ digit-spec =
     cast-result
     add-result
     returns)
-

@@ -14,4 +14,3 @@ returns-2 c = plus-signed ((c .before .args) .z) ((c .before .fits) .z) ((c .if1
 
 pub sign-spec : {M : Type 1} → statement M
 sign-spec = tie.close (tie.spec returns returns-2)
-

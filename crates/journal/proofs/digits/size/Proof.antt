@@ -32,4 +32,3 @@ returns-2 c = plus-size ((c .before .args) .z) ((c .before .fits) .z) ((c .if1) 
 pub size-spec : {M : Type 1} → statement M
 size-spec =
     tie.close (tie.spec cast-result sub-result cast-result-2 returns cast-result-3 returns-2)
-

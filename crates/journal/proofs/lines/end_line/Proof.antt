@@ -16,4 +16,3 @@ returns c = end-joined _ _ _ ((c .standing) .ensures)
 
 pub end-line-spec : {M : Type 1} → statement M
 end-line-spec = tie.close (tie.spec standing-requires returns)
-

@@ -31,4 +31,3 @@ returns-2 c = told-letters _ _ _ _ ((c .before .before .before .read-mark) .ensu
 
 pub kind-of-spec : {M : Type 1} → statement M
 kind-of-spec = tie.close (tie.spec read-mark-requires enum-known-k enum-told returns returns-2)
-

@@ -16,4 +16,3 @@ returns c = record-joined _ _ _ _ ((c .saying) .ensures)
 
 pub record-line-spec : {M : Type 1} → statement M
 record-line-spec = tie.close (tie.spec saying-requires returns)
-

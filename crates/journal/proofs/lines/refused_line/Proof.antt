@@ -10,4 +10,3 @@ returns c = refused-joined _
 
 pub refused-line-spec : {M : Type 1} → statement M
 refused-line-spec = tie.close (tie.spec returns)
-

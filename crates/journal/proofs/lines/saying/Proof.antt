@@ -70,4 +70,3 @@ saying-spec =
     returns-2
     returns-3
     returns-4)
-

@@ -23,4 +23,3 @@ returns-4 c = past-three _ _ _ ((c .before .before .before .args) .i) ((c .befor
 
 pub answered-spec : {M : Type 1} → statement M
 answered-spec = tie.close (tie.spec returns returns-2 returns-3 returns-4)
-

@@ -37,4 +37,3 @@ returns-3 c = (c .nets) .ensures ∙ sym (getD-second (lettersOf ((c .before .be
 
 pub changed-spec : {M : Type 1} → statement M
 changed-spec = tie.close (tie.spec returns returns-2 sub-nets nets-requires returns-3)
-

@@ -55,4 +55,3 @@ counts-spec =
     sub-last-number
     last-number-requires
     returns-3)
-

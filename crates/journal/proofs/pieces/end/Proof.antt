@@ -32,4 +32,3 @@ returns-2 c = (c .counts) .ensures ∙ sym (getD-next endWord (each (decimal ((c
 
 pub end-spec : {M : Type 1} → statement M
 end-spec = tie.close (tie.spec returns sub-counts counts-requires returns-2)
-

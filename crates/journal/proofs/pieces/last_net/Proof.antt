@@ -44,4 +44,3 @@ pub last-net-spec : {M : Type 1} → statement M
 last-net-spec =
     tie.close
     (tie.spec sign-requires returns size-requires sub-last-number last-number-requires returns-2)
-

@@ -37,4 +37,3 @@ returns-3 c = sym (each-past (decimal ((c .before .before .before .args) .n)) ne
 
 pub last-number-spec : {M : Type 1} → statement M
 last-number-spec = tie.close (tie.spec count-requires digit-requires returns returns-2 returns-3)
-

@@ -98,4 +98,3 @@ nets-spec =
     sub-last-net-3
     last-net-requires
     returns-4)
-

@@ -69,4 +69,3 @@ piece-at-spec =
     returns
     returns-2
     returns-3)
-

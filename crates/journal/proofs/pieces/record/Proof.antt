@@ -48,4 +48,3 @@ pub record-spec : {M : Type 1} → statement M
 record-spec =
     tie.close
     (tie.spec count-requires digit-requires returns returns-2 sub-said said-requires returns-3)
-

@@ -32,4 +32,3 @@ returns-2 c = (c .last-number) .ensures ∙ sym (getD-next refusedWord (lastNumb
 
 pub refused-spec : {M : Type 1} → statement M
 refused-spec = tie.close (tie.spec returns sub-last-number last-number-requires returns-2)
-

@@ -85,4 +85,3 @@ said-spec =
     returns-2
     returns-3
     returns-4)
-

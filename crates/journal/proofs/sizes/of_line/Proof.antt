@@ -97,4 +97,3 @@ of-line-spec =
     returns
     returns-2
     returns-3)
-

@@ -32,4 +32,3 @@ returns c = (omega (arith, (c .count) .ensures .0, ap (λ (n : ℕ). length (dec
 
 pub of-net-spec : {M : Type 1} → statement M
 of-net-spec = tie.close (tie.spec size-requires count-requires add-result returns)
-

@@ -35,4 +35,3 @@ returns c = (omega (arith, (c .before .before .of-net) .ensures .0, (c .of-net2)
 pub of-nets-spec : {M : Type 1} → statement M
 of-nets-spec =
     tie.close (tie.spec of-net-requires of-net-requires-2 add-result add-result-2 returns)
-

@@ -77,4 +77,3 @@ of-said-spec =
     returns-2
     returns-3
     returns-4)
-
