@@ -30,6 +30,9 @@ pub enum Piece {
     Past,
 }
 
+// The place of the sign among the pieces of a net.
+const SIGN: usize = 0;
+
 // Piece i of the last number of a line, and of the line's end.
 fn last_number(n: usize, i: usize) -> Piece
     ensures { λ r. ⌜ bytesOf r ≡ getD (lastNumber n) i [] ⌝ }
@@ -48,7 +51,7 @@ fn last_number(n: usize, i: usize) -> Piece
 fn last_net(z: i32, i: usize) -> Piece
     ensures { λ r. ⌜ bytesOf r ≡ getD (each (signed z) ++ (newline ∷ [])) i [] ⌝ }
 {
-    if i == 0 {
+    if i == SIGN {
         return Piece::Byte(digits::sign(z));
     }
     last_number(digits::size(z), i - 1)
@@ -62,7 +65,7 @@ fn nets(c: Counts, i: usize) -> Piece
     let sayings = c.sayings;
     let n = digits::size(truths.net);
     let d = digits::count(n);
-    if i == 0 {
+    if i == SIGN {
         return Piece::Byte(digits::sign(truths.net));
     }
     if i - 1 < d {

@@ -176,15 +176,13 @@ fn put_piece(h: Handed, l: Line) -> Handed
     }
 }
 
-// Writes the pieces of a line, one after another.
-fn write_line(l: Line) -> Handed
+// Writes the pieces of a line, one after another, from the first on.
+fn write_line(start: Handed, l: Line) -> Handed
+    requires { ⌜ start .pieces ≡ 0 ⌝ }
     ensures { λ r. ⌜ r .pieces ≡ length (linePieces l) ⌝ }
 {
     let n = sizes::of_line(l);
-    let mut h = Handed {
-        pieces: 0,
-        open: true,
-    };
+    let mut h = start;
     while h.pieces < n {
         h = put_piece(h, l);
     }
@@ -201,7 +199,11 @@ fn write(o: Output, s: &[u8], line: Line) -> Output
     if !open {
         return Output { lines, open: false };
     }
-    let h = write_line(line);
+    let start = Handed {
+        pieces: 0,
+        open: true,
+    };
+    let h = write_line(start, line);
     Output {
         lines,
         open: h.open,

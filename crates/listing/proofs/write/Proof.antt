@@ -6,19 +6,19 @@ use Rattle.listing.proofs.write.Reads as reads
 use Rattle.listing.proofs.write.Lts as lts
 use Rattle.listing.proofs.write_line.Reads as write-line-reads
 
--- src/main.rt:196:17
+-- src/main.rt:197:17
 add-lines : tie.Need-add-lines
 add-lines c = search needs
 
--- src/main.rt:199:9
+-- src/main.rt:200:9
 returns : tie.Need-returns
 returns c = search needs
 
--- src/main.rt:201:9
+-- src/main.rt:206:9
 write-line-requires : tie.Need-write-line-requires
 write-line-requires c κs = search needs
 
--- src/main.rt:192:1
+-- src/main.rt:193:1
 returns-2 : tie.Need-returns-2
 returns-2 c = (search needs, λ e. absurd (not-shut ((c .before .before .before .before .args) .o .«open») e ((c .before .if1) .left)))
 
