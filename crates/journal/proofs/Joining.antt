@@ -1,7 +1,7 @@
 -- The pieces of a line: which stands where, and that joined they are the line.
 use Prim.Native.Nat.{ℕ, zero, suc, _+_, _-_, _<_}
 use mathlib.Core.Path.{_≡_, refl, sym, ap, _∙_, subst}
-use mathlib.Core.List.{List, [], _∷_, _++_, append-assoc, append-nil}
+use mathlib.Core.List.{List, [], _∷_, _++_, append-assoc}
 use native.Mathlib.Omega.{arith}
 use lib.ListN.{length, getD, length-append}
 use lib.IntN.{ℤ, pos, negsuc, natAbs}
@@ -47,17 +47,10 @@ after (x ∷ xs) p ps (suc i) j e = after xs p ps i j (omega arith)
 pub each-past : (xs : List ℕ) (p : List ℕ) (ps : List (List ℕ)) (i d : ℕ) → d ≡ length xs → d < i → getD (each xs ++ (p ∷ ps)) i [] ≡ getD ps (i - d - 1) []
 each-past xs p ps i d e l = after xs p ps i (i - d - 1) (omega arith)
 
--- past the last piece there is none
-pub getD-none : (i : ℕ) → getD {A = List ℕ} [] i [] ≡ []
-getD-none i = refl
-
 -- the piece after the first
 pub getD-next : (p : List ℕ) (ps : List (List ℕ)) (i : ℕ) → (i ≡ 0 → ⊥) → getD (p ∷ ps) i [] ≡ getD ps (i - 1) []
 getD-next p ps zero d = absurd (d refl)
 getD-next p ps (suc i) d = let e : i ≡ suc i - 1 = omega arith in ap (λ (k : ℕ). getD ps k []) e
-
-pub getD-first : (p : List ℕ) (ps : List (List ℕ)) (i : ℕ) → i ≡ 0 → getD (p ∷ ps) i [] ≡ p
-getD-first p ps i e = ap (λ (k : ℕ). getD (p ∷ ps) k []) e
 
 pub getD-second : (p q : List ℕ) (ps : List (List ℕ)) (i : ℕ) → (i ≡ 0 → ⊥) → (i ≡ 1 → ⊥) → getD (p ∷ q ∷ ps) i [] ≡ getD ps (i - 2) []
 getD-second p q ps i d e =

@@ -1,10 +1,7 @@
 -- A record's kind tells its letters.
-use Prim.Native.Nat.{ℕ, _≤_, _<_}
+use Prim.Native.Nat.{ℕ}
 use mathlib.Core.Path.{_≡_, sym, _∙_}
-use mathlib.Core.List.{List, [], _∷_}
-use native.Mathlib.Omega.{arith}
-use lib.ListN.{length, take}
-use lib.Seq.{take-all}
+use mathlib.Core.List.{List}
 use Rattle.reader.specs.declared.records.Kind.{Kind}
 use Rattle.reader.specs.declared.records.MarkOut.{MarkOut}
 use Rattle.reader.specs.declared.records.MarkOut.the-variants as mark

@@ -1,19 +1,17 @@
 -- A call that answers with no refusal has read the record's kind.
-use Prim.Native.Nat.{ℕ, _-_}
+use Prim.Native.Nat.{ℕ}
 use mathlib.Core.Path.{_≡_, refl, sym, ap, _∙_, subst}
 use mathlib.Core.Logic.{⊎-elim}
 use mathlib.Core.List.{List}
 use native.Mathlib.Omega.{arith}
-use lib.ListN.{length, take, drop}
 use Rattle.reader.specs.declared.records.Kind.{Kind}
-use Rattle.ranges.specs.Bytes.{Outcome, got, refused, andThen}
+use Rattle.ranges.specs.Bytes.{Outcome, got, refused}
 use Rattle.reader.specs.Records.{Record, readMark, readRecord}
 use Rattle.book.specs.declared.Book.{Book}
 use Rattle.book.specs.declared.Answered.{Answered}
 use Rattle.book.specs.declared.Answer.{Answer}
 use Rattle.book.specs.declared.Answer.the-variants.{Permitted, NotPermitted, Changed, Refused}
 use Rattle.book.specs.Machine.{State, acted, step}
-use Rattle.book.specs.Books.{BookForm}
 use Rattle.book.specs.Calls.{answerOf, Called}
 use Rattle.demands.proofs.Shown.{shows-some}
 use Rattle.journal.specs.Pieces.{Opened}
@@ -47,7 +45,3 @@ called-opened b m s r n C = go (readMark s) refl
         (λ f. let w = shows-some b m f in refusal-opened s (r .answer) j (C .formed f (w .0) (w .1) .answer ∙ says-refused (w .0) s m n j e))
         (λ g. refusal-opened s (r .answer) 9 (ap (λ (x : Answered). x .answer) (C .unformed g .0)))
         (C .decided)
-
--- of the part of a journal from a place on
-pub opened-rest : (b : Book) (m s : List ℕ) (at : ℕ) (r : Answered) (n : List ℕ) → Called b m (take (length s - at) (drop at s)) r n → Opened (take (length s - at) (drop at s)) (r .answer)
-opened-rest b m s at r n C = called-opened b m _ r n C

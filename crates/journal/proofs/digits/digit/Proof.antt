@@ -1,8 +1,7 @@
-use Prim.Native.Nat.{ℕ, _+_, _≤_}
+use Prim.Native.Nat.{_+_, _≤_}
 use mathlib.Core.Path.{_≡_, refl, sym, _∙_}
 use native.Mathlib.Omega.{arith}
 use native.Mathlib.Nat.{mod-lt}
-use borrow.Author.Needs.{needs}
 use lib.ListN.{length, getD}
 use Rattle.journal.specs.Lines.{decimal}
 use Rattle.journal.proofs.Decimals.{long-ten, decimal-grows, digit-up, digit-last}

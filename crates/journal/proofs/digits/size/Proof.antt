@@ -1,5 +1,4 @@
 use Rattle.journal.proofs.Signs.{wide-fits, opposite-fits, opposite-cast, minus-size, same-cast, plus-size}
-use borrow.Author.Needs.{needs}
 use Rattle.journal.proofs.digits.size.Statement.{statement}
 use Rattle.journal.proofs.digits.size.Tie as tie
 use Rattle.journal.proofs.digits.size.Reads as reads

@@ -1,13 +1,8 @@
-use mathlib.Core.Path.{_≡_, sym, ap, _∙_}
-use Prim.Native.Nat.{ℕ, _-_}
-use mathlib.Core.List.{List, [], _∷_, _++_}
-use native.Mathlib.Omega.{arith}
-use lib.ListN.{getD}
+use mathlib.Core.Path.{sym, _∙_}
 use Rattle.reader.specs.Records.{lettersOf}
-use Rattle.journal.proofs.Joining.{alone, each-at, each-next, each-past, getD-next, getD-second, net-first, net-next}
-use Rattle.journal.proofs.Saying.{net-as}
-use Rattle.journal.specs.Lines.{decimal, signed, space, newline, marksWord}
-use Rattle.journal.specs.Pieces.{netPieces, each, lastNumber, saidPieces, linePieces}
+use Rattle.journal.proofs.Joining.{getD-second}
+use Rattle.journal.specs.Lines.{space}
+use Rattle.journal.specs.Pieces.{netPieces}
 use borrow.Author.Needs.{needs}
 use Rattle.journal.proofs.pieces.changed.Statement.{statement}
 use Rattle.journal.proofs.pieces.changed.Tie as tie

@@ -1,13 +1,13 @@
 use lib.IntN.{ℤ}
-use mathlib.Core.Path.{_≡_, sym, ap, _∙_}
-use Prim.Native.Nat.{ℕ, _-_}
-use mathlib.Core.List.{List, [], _∷_, _++_}
+use mathlib.Core.Path.{sym, ap, _∙_}
+use Prim.Native.Nat.{_-_}
+use mathlib.Core.List.{[], _∷_, _++_}
 use native.Mathlib.Omega.{arith}
 use lib.ListN.{getD}
-use Rattle.journal.proofs.Joining.{alone, each-at, each-next, each-past, getD-next, getD-second, net-first, net-next}
+use Rattle.journal.proofs.Joining.{alone, each-at, each-next, each-past, net-first, net-next}
 use Rattle.journal.proofs.Saying.{net-as}
-use Rattle.journal.specs.Lines.{decimal, signed, space, newline, marksWord}
-use Rattle.journal.specs.Pieces.{each, lastNumber, saidPieces, linePieces}
+use Rattle.journal.specs.Lines.{decimal, signed, space, newline}
+use Rattle.journal.specs.Pieces.{each}
 use borrow.Author.Needs.{needs}
 use Rattle.journal.proofs.pieces.nets.Statement.{statement}
 use Rattle.journal.proofs.pieces.nets.Tie as tie

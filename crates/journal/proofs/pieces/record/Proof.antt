@@ -1,12 +1,9 @@
-use mathlib.Core.Path.{_≡_, sym, ap, _∙_}
-use Prim.Native.Nat.{ℕ, _-_}
-use mathlib.Core.List.{List, [], _∷_, _++_}
+use mathlib.Core.Path.{sym, _∙_}
+use mathlib.Core.List.{_∷_}
 use native.Mathlib.Omega.{arith}
-use lib.ListN.{getD}
-use Rattle.journal.proofs.Joining.{alone, each-at, each-next, each-past, getD-next, getD-second, net-first, net-next}
-use Rattle.journal.proofs.Saying.{net-as}
-use Rattle.journal.specs.Lines.{decimal, signed, space, newline, marksWord}
-use Rattle.journal.specs.Pieces.{each, lastNumber, saidPieces, linePieces}
+use Rattle.journal.proofs.Joining.{alone, each-at, each-next, each-past}
+use Rattle.journal.specs.Lines.{decimal, space}
+use Rattle.journal.specs.Pieces.{saidPieces}
 use borrow.Author.Needs.{needs}
 use Rattle.journal.proofs.pieces.record.Statement.{statement}
 use Rattle.journal.proofs.pieces.record.Tie as tie

@@ -1,12 +1,7 @@
-use mathlib.Core.Path.{_≡_, sym, ap, _∙_}
-use Prim.Native.Nat.{ℕ, _-_}
-use mathlib.Core.List.{List, [], _∷_, _++_}
-use native.Mathlib.Omega.{arith}
-use lib.ListN.{getD}
-use Rattle.journal.proofs.Joining.{alone, each-at, each-next, each-past, getD-next, getD-second, net-first, net-next}
-use Rattle.journal.proofs.Saying.{net-as}
-use Rattle.journal.specs.Lines.{decimal, signed, space, newline, marksWord, refusedWord}
-use Rattle.journal.specs.Pieces.{each, lastNumber, saidPieces, linePieces}
+use mathlib.Core.Path.{sym, _∙_}
+use Rattle.journal.proofs.Joining.{getD-next}
+use Rattle.journal.specs.Lines.{refusedWord}
+use Rattle.journal.specs.Pieces.{lastNumber}
 use borrow.Author.Needs.{needs}
 use Rattle.journal.proofs.pieces.refused.Statement.{statement}
 use Rattle.journal.proofs.pieces.refused.Tie as tie
