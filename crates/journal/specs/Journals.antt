@@ -82,8 +82,8 @@ pub record Steps (b : Book) (m s : List ℕ) (at n : ℕ) (r : Stepped) (m′ : 
   pub line : Carries (r .line) (lineOf n (drop at s) (r .answered .answer))
   pub next : r .next ≡ nextPlace (length s) at (r .answered .used)
 
--- DEMANDED of a line that is written after k lines: its pieces, joined, are line k, counted from 0, of the listing of s. (A journal has one listing:
--- theorems `listed-some` and `listed-only`.)
+-- DEMANDED of a line that is written after k lines: its pieces, joined, are line k, counted from 0, of the listing of s. (A
+-- journal has one listing: theorems `listed-some` and `listed-only`.)
 pub record Follows (s : List ℕ) (k : ℕ) (t : Line) : Type 0 where
   pub lines : List (List ℕ)
   pub listed : Listed s lines
