@@ -8,9 +8,10 @@ use Rattle.book.specs.declared.Book.{Book}
 use Rattle.book.specs.declared.Answered.{Answered}
 use Rattle.book.specs.Calls.{Called}
 use Rattle.book.specs.Chains.{Call, freshBook, freshMarks}
-use Rattle.journal.specs.Journals.{Calls, ended, then, Leaves, nextPlace}
-use Rattle.journal.proofs.Listings.{calls-only}
-use Rattle.journal.proofs.Reading.{next-within, next-rest}
+use Rattle.journal.specs.Journals.{Calls, ended, then, Leaves}
+use Rattle.places.specs.Places.{nextPlace}
+use Rattle.journal.proofs.Calling.{calls-only}
+use Rattle.places.proofs.Places.{next-within, next-rest}
 
 -- What was read up to a place: with any calls of what is left it makes the calls of the journal.
 pub record ReadTo (s : List ℕ) (b : Book) (m : List ℕ) (at : ℕ) : Type 0 where

@@ -1,10 +1,6 @@
-pub mod Decimals
-pub mod Signs
 pub mod Letters
-pub mod Saying
 pub mod Joining
 pub mod Opening
-pub mod Ending
-pub mod Listings
-pub mod Reading
+pub mod Rests
+pub mod Calling
 pub mod Leaving

@@ -14,7 +14,7 @@ use Rattle.book.specs.declared.Answer.the-variants.{Permitted, NotPermitted, Ch
 use Rattle.book.specs.Machine.{State, acted, step}
 use Rattle.book.specs.Calls.{answerOf, Called}
 use Rattle.demands.proofs.Shown.{shows-some}
-use Rattle.journal.specs.Pieces.{Opened}
+use Rattle.journal.specs.Lines.{Opened}
 
 -- a refusal says nothing of the kind
 refusal-opened : (s : List ℕ) (a : Answer) (k : ℕ) → a ≡ Refused k → Opened s a

@@ -1,47 +1,18 @@
 -- Document 01, "What the listing program prints": the bytes of each line, in ASCII.
-use Prim.Native.Nat.{ℕ, zero, suc, _+_, _/_, _%_}
-use mathlib.Core.Bool.{cond}
-use mathlib.Core.List.{List, [], _∷_, _++_}
+use Prim.Native.Nat.{ℕ}
+use mathlib.Core.Path.{_≡_}
+use mathlib.Core.List.{List, _++_}
 use lib.ListN.{take}
-use lib.Dec.{ltb}
-use lib.IntN.{ℤ, pos, negsuc}
+use Rattle.ranges.specs.Bytes.{refused}
+use Rattle.reader.specs.Records.{readMark}
 use Rattle.marks.specs.declared.Counts.{Counts}
+use Rattle.marks.specs.Counts.{ones}
 use Rattle.book.specs.declared.Answer.{Answer}
 use Rattle.book.specs.declared.Answer.the-variants.{Permitted, NotPermitted, Changed, Refused}
-use Rattle.marks.specs.Counts.{ones}
-
--- The digits of n without leading zeros, the last k where there are more; `0` to `9` are 48 to 57.
-unfoldable pub digits : ℕ → ℕ → List ℕ
-digits zero n = []
-digits (suc k) n = cond (ltb n 10) ((48 + n) ∷ []) (digits k (n / 10) ++ ((48 + n % 10) ∷ []))
-
--- A number in decimal: n + 1 digits are enough for n.
-unfoldable pub decimal : ℕ → List ℕ
-decimal n = digits (suc n) n
-
--- A "signed net": "A net of zero prints as `+0`"; `+` is 43 and `-` is 45. `negsuc n` is -(n + 1).
-unfoldable pub signed : ℤ → List ℕ
-signed (pos n) = 43 ∷ decimal n
-signed (negsuc n) = 45 ∷ decimal (suc n)
-
--- " ", and the line's end
-abbrev pub space : List ℕ
-space = 32 ∷ []
-
-abbrev pub newline : List ℕ
-newline = 10 ∷ []
-
--- " permitted"
-abbrev pub permitted : List ℕ
-permitted = 32 ∷ 112 ∷ 101 ∷ 114 ∷ 109 ∷ 105 ∷ 116 ∷ 116 ∷ 101 ∷ 100 ∷ []
-
--- " not permitted"
-abbrev pub notPermitted : List ℕ
-notPermitted = 32 ∷ 110 ∷ 111 ∷ 116 ∷ permitted
-
--- "refused "
-abbrev pub refusedWord : List ℕ
-refusedWord = 114 ∷ 101 ∷ 102 ∷ 117 ∷ 115 ∷ 101 ∷ 100 ∷ 32 ∷ []
+use Rattle.digits.specs.Decimals.{decimal, signed}
+use Rattle.pieces.specs.Words.{space, newline, permitted, notPermitted, refusedWord, endWord, marksWord}
+use Rattle.lines.specs.declared.Said.{Said}
+use Rattle.lines.specs.Pieces.{saidPieces, joined}
 
 -- "its letters": a record "opens with two letters in ASCII".
 abbrev pub lettersIn : List ℕ → List ℕ
@@ -67,13 +38,18 @@ lineOf n s a = decimal n ++ space ++ said s a ++ newline
 unfoldable pub refusedLine : ℕ → List ℕ
 refusedLine k = refusedWord ++ decimal k ++ newline
 
--- "end " and " marks "
-abbrev pub endWord : List ℕ
-endWord = 101 ∷ 110 ∷ 100 ∷ 32 ∷ []
-
-abbrev pub marksWord : List ℕ
-marksWord = 32 ∷ 109 ∷ 97 ∷ 114 ∷ 107 ∷ 115 ∷ 32 ∷ []
-
 -- "The last line has the count of record lines and of marks standing."
 unfoldable pub endOf : ℕ → List ℕ → List ℕ
 endOf n m = endWord ++ decimal n ++ marksWord ++ decimal (ones m) ++ newline
+
+-- An answer other than a refusal, of a record that s starts with: the record's kind was read. (A call answers so: theorem
+-- `called-opened`.)
+abbrev pub Opened : List ℕ → Answer → Type 0
+Opened s (Changed c) = (j : ℕ) → readMark s ≡ refused j → ⊥
+Opened s Permitted = (j : ℕ) → readMark s ≡ refused j → ⊥
+Opened s NotPermitted = (j : ℕ) → readMark s ≡ refused j → ⊥
+Opened s (Refused k) = Unit {0}
+
+-- What a line says of the answer a to the record that s starts with: the letters of its kind are those of s.
+abbrev pub Says : List ℕ → Answer → Said → Type 0
+Says s a r = joined (saidPieces r) ≡ said s a ++ newline

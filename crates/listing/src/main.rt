@@ -1,15 +1,14 @@
 // Reads a journal from standard input, and writes the listing to standard output. What fails is told on standard error.
 use book::Book;
-use journal::lines;
-use journal::lines::Line;
-use journal::pieces;
-use journal::pieces::Piece;
-use journal::pieces::Word;
-use journal::sizes;
+use journal::answers;
 use libc::EINTR;
 use libc::STDERR_FILENO;
 use libc::STDIN_FILENO;
 use libc::STDOUT_FILENO;
+use lines::Line;
+use lines::sizes;
+use pieces::Piece;
+use pieces::Word;
 use sorts::Number;
 ghost use mathlib.Core.Bool.{true, false, not};
 ghost use mathlib.Core.Path.{_≡_};
@@ -18,8 +17,9 @@ ghost use Prim.Native.Nat.{_+_, _<_, _≤_};
 ghost use lib.ListN.{length, take, getD};
 ghost use Rattle.book.specs.Chains.{freshMarks};
 ghost use Rattle.io.specs.Counts.{Counts};
-ghost use Rattle.journal.specs.Journals.{Follows, Finished};
-ghost use Rattle.journal.specs.Pieces.{Next, linePieces, wordBytes};
+ghost use Rattle.listings.specs.Listings.{Follows, Finished};
+ghost use Rattle.lines.specs.Pieces.{Next, linePieces};
+ghost use Rattle.pieces.specs.Pieces.{wordBytes};
 ghost use Rattle.libc.specs.Io.{Moved};
 ghost use Rattle.listing.specs.Inputs.{Heard};
 
@@ -167,7 +167,7 @@ fn put_piece(h: Handed, l: Line) -> Handed
     requires { ⌜ Next l (h .pieces) ⌝ }
     ensures { λ r. ⌜ (r .pieces ≡ h .pieces + 1) × (h .open ≡ false → r .open ≡ false) ⌝ }
 {
-    let p = pieces::piece_at(l, h.pieces);
+    let p = lines::piece_at(l, h.pieces);
     match p {
         Piece::Byte(b) => put(h, l, &[b]),
         Piece::Letters(k) => put(h, l, &k.letters()),
@@ -229,7 +229,7 @@ fn list_records(s: &[u8], marks: &mut [u8]) -> Output
         b = a.book;
         at = r.next;
     }
-    write(o, s, lines::end_line(o.lines, marks))
+    write(o, s, answers::end_line(o.lines, marks))
 }
 
 // The listing of the bytes that were read, to the end of the input or of their room, with no failure.
@@ -238,12 +238,12 @@ fn list(i: Input, bytes: &[u8], marks: &mut [u8]) -> Output
     ensures { λ r. ⌜ Finished (take (i .n) (now (bytes .entry))) (r .lines) ⌝ }
 {
     let n = i.n;
-    if journal::over(n) {
+    if places::over(n) {
         let o = Output {
             lines: 0,
             open: true,
         };
-        return write(o, &bytes[..n], lines::refused_line(8));
+        return write(o, &bytes[..n], answers::refused_line(8));
     }
     list_records(&bytes[..n], marks)
 }

@@ -8,7 +8,7 @@ use Rattle.book.specs.declared.Book.{Book}
 use Rattle.book.specs.Machine.{start}
 use Rattle.book.specs.Chains.{records, runs}
 use Rattle.journal.specs.Journals.{Leaves}
-use Rattle.journal.proofs.Listings.{calls-chain}
+use Rattle.journal.proofs.Calling.{calls-chain}
 use Rattle.journal.proofs.Leaving.{leaves-only}
 use Rattle.panel.specs.declared.PackRight.the-variants.{Run, Export}
 use Rattle.panel.specs.declared.Panel.{Panel}

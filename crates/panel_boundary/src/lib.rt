@@ -15,7 +15,7 @@ fn panel_after(s: &[u8], p: u8, marks: &mut [u8]) -> Panel
     requires { ⌜ now marks ≡ freshMarks ⌝ }
     ensures { λ r. ⌜ JournalPanel (now (s .entry)) p r ⌝ }
 {
-    if journal::over(s.len()) {
+    if places::over(s.len()) {
         return Panel {
             said: Said::Refused(Refusal::LENGTH),
             run: 0,

@@ -3,7 +3,8 @@ use mathlib.Core.Path.{_≡_}
 use native.Mathlib.Omega.{arith}
 use borrow.Author.Needs.{needs}
 use lib.ListN.{length}
-use Rattle.journal.proofs.Reading.{call-rest, next-further}
+use Rattle.journal.proofs.Rests.{call-rest}
+use Rattle.places.proofs.Places.{next-further}
 use Rattle.journal.proofs.Leaving.{ReadTo, to-none, to-next, to-end}
 use Rattle.journal.proofs.book_after.Statement.{statement}
 use Rattle.journal.proofs.book_after.Tie as tie
@@ -11,7 +12,7 @@ use Rattle.journal.proofs.book_after.Reads as reads
 use Rattle.journal.proofs.book_after.Lts as lts
 use Rattle.book.proofs.Book.new.Reads as new-reads
 use Rattle.book.proofs.call.Reads as call-reads
-use Rattle.journal.proofs.next_place.Reads as next-place-reads
+use Rattle.places.proofs.next_place.Reads as next-place-reads
 
 abbrev Inv-loop : tie.InvT-loop
 Inv-loop s marks₀ b₀ at₀ marks b at = ReadTo s b marks at × (length marks ≡ length marks₀)

@@ -1,4 +1,4 @@
-use Rattle.journal.proofs.Reading.{call-rest, line-rest}
+use Rattle.journal.proofs.Rests.{call-rest, line-rest}
 use Rattle.journal.proofs.Opening.{called-opened}
 use borrow.Author.Needs.{needs}
 use Rattle.journal.proofs.step.Statement.{statement}
@@ -6,8 +6,8 @@ use Rattle.journal.proofs.step.Tie as tie
 use Rattle.journal.proofs.step.Reads as reads
 use Rattle.journal.proofs.step.Lts as lts
 use Rattle.book.proofs.call.Reads as call-reads
-use Rattle.journal.proofs.lines.record_line.Reads as record-line-reads
-use Rattle.journal.proofs.next_place.Reads as next-place-reads
+use Rattle.journal.proofs.answers.record_line.Reads as record-line-reads
+use Rattle.places.proofs.next_place.Reads as next-place-reads
 
 -- src/lib.rt:51:41
 sub-call : tie.Need-sub-call

@@ -1,14 +1,14 @@
 use mathlib.Core.Path.{refl, sym, _∙_}
 use native.Mathlib.Omega.{arith}
 use borrow.Author.Tests.{ltb-true, ltb-false}
-use Rattle.journal.proofs.Reading.{over-follows, over-ran}
+use Rattle.listings.proofs.Reading.{over-follows, over-ran}
 use borrow.Author.Needs.{needs}
 use Rattle.listing.proofs.list.Statement.{statement}
 use Rattle.listing.proofs.list.Tie as tie
 use Rattle.listing.proofs.list.Reads as reads
 use Rattle.listing.proofs.list.Lts as lts
-use Rattle.journal.proofs.lines.refused_line.Reads as refused-line-reads
-use Rattle.journal.proofs.over.Reads as over-reads
+use Rattle.journal.proofs.answers.refused_line.Reads as refused-line-reads
+use Rattle.places.proofs.over.Reads as over-reads
 use Rattle.listing.proofs.list_records.Reads as list-records-reads
 use Rattle.listing.proofs.write.Reads as write-reads
 

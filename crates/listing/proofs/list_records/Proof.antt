@@ -2,14 +2,15 @@ use Prim.Native.Nat.{_-_}
 use mathlib.Core.Path.{_≡_, sym, subst}
 use native.Mathlib.Omega.{arith}
 use lib.ListN.{length}
-use Rattle.journal.proofs.Reading.{Read, read-none, read-step, step-follows, end-follows, read-ran, next-further}
+use Rattle.listings.proofs.Reading.{Read, read-none, read-step, step-follows, end-follows, read-ran}
+use Rattle.places.proofs.Places.{next-further}
 use borrow.Author.Needs.{needs}
 use Rattle.listing.proofs.list_records.Statement.{statement}
 use Rattle.listing.proofs.list_records.Tie as tie
 use Rattle.listing.proofs.list_records.Reads as reads
 use Rattle.listing.proofs.list_records.Lts as lts
 use Rattle.book.proofs.Book.new.Reads as new-reads
-use Rattle.journal.proofs.lines.end_line.Reads as end-line-reads
+use Rattle.journal.proofs.answers.end_line.Reads as end-line-reads
 use Rattle.journal.proofs.step.Reads as step-reads
 use Rattle.listing.proofs.write.Reads as write-reads
 

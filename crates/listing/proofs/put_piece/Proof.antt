@@ -1,12 +1,12 @@
 use mathlib.Core.Path.{sym, ap, _∙_}
-use Rattle.journal.specs.Pieces.{bytesOf}
-use Rattle.journal.proofs.Joining.{piece-some}
+use Rattle.pieces.specs.Pieces.{bytesOf}
+use Rattle.lines.proofs.Joining.{piece-some}
 use borrow.Author.Needs.{needs}
 use Rattle.listing.proofs.put_piece.Statement.{statement}
 use Rattle.listing.proofs.put_piece.Tie as tie
 use Rattle.listing.proofs.put_piece.Reads as reads
 use Rattle.listing.proofs.put_piece.Lts as lts
-use Rattle.journal.proofs.pieces.piece_at.Reads as piece-at-reads
+use Rattle.lines.proofs.piece_at.Reads as piece-at-reads
 use Rattle.listing.proofs.put.Reads as put-reads
 use Rattle.listing.proofs.put_word.Reads as put-word-reads
 use Rattle.reader.proofs.records.Kind.letters.Reads as letters-reads

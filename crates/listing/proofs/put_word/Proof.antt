@@ -1,5 +1,5 @@
 use mathlib.Core.Path.{sym, ap, _∙_}
-use Rattle.journal.specs.Pieces.{wordBytes}
+use Rattle.pieces.specs.Pieces.{wordBytes}
 use borrow.Author.Needs.{needs}
 use Rattle.listing.proofs.put_word.Statement.{statement}
 use Rattle.listing.proofs.put_word.Tie as tie

@@ -5,7 +5,7 @@ use Rattle.listing.proofs.write_line.Statement.{statement}
 use Rattle.listing.proofs.write_line.Tie as tie
 use Rattle.listing.proofs.write_line.Reads as reads
 use Rattle.listing.proofs.write_line.Lts as lts
-use Rattle.journal.proofs.sizes.of_line.Reads as of-line-reads
+use Rattle.lines.proofs.sizes.of_line.Reads as of-line-reads
 use Rattle.listing.proofs.put_piece.Reads as put-piece-reads
 
 abbrev Inv-loop : tie.InvT-loop

@@ -7,7 +7,7 @@ use Rattle.panel_boundary.proofs.panel_after.Tie as tie
 use Rattle.panel_boundary.proofs.panel_after.Reads as reads
 use Rattle.panel_boundary.proofs.panel_after.Lts as lts
 use Rattle.journal.proofs.book_after.Reads as book-after-reads
-use Rattle.journal.proofs.over.Reads as over-reads
+use Rattle.places.proofs.over.Reads as over-reads
 use Rattle.panel.proofs.show.Reads as show-reads
 
 -- src/lib.rt:18:8

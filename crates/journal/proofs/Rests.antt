@@ -1,0 +1,20 @@
+-- What a call and a line say of the part of a journal from a place to its end.
+use Prim.Native.Nat.{ℕ, _-_}
+use mathlib.Core.Path.{subst}
+use mathlib.Core.List.{List}
+use native.Mathlib.Omega.{arith}
+use lib.ListN.{length, take, drop, length-drop}
+use lib.Seq.{take-all}
+use Rattle.book.specs.declared.Book.{Book}
+use Rattle.book.specs.declared.Answer.{Answer}
+use Rattle.book.specs.declared.Answered.{Answered}
+use Rattle.book.specs.Calls.{Called}
+use Rattle.lines.specs.declared.Line.{Line}
+use Rattle.lines.specs.Pieces.{Carries}
+use Rattle.journal.specs.Lines.{lineOf}
+
+pub call-rest : {b : Book} {m : List ℕ} (s : List ℕ) (at : ℕ) {r : Answered} {n : List ℕ} → Called b m (take (length s - at) (drop at s)) r n → Called b m (drop at s) r n
+call-rest {b} {m} s at {r} {n} h = subst (λ (x : List ℕ). Called b m x r n) (take-all (length s - at) (drop at s) (omega (arith, length-drop at s))) h
+
+pub line-rest : (n : ℕ) (s : List ℕ) (at : ℕ) (a : Answer) {t : Line} → Carries t (lineOf n (take (length s - at) (drop at s)) a) → Carries t (lineOf n (drop at s) a)
+line-rest n s at a {t} h = subst (λ (x : List ℕ). Carries t (lineOf n x a)) (take-all (length s - at) (drop at s) (omega (arith, length-drop at s))) h
