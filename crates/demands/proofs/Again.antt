@@ -19,7 +19,8 @@ use Rattle.book.specs.declared.Book.{Book}
 use Rattle.book.specs.declared.Answer.the-variants.{Changed}
 use Rattle.book.specs.declared.Answered.{Answered}
 use Rattle.book.specs.Machine.{State, Verdict, Step, changes, refuse, act, acted, step, insert, stands}
-use Rattle.marks.specs.Counts.{Statements, truths, sayings, gains, marksOf, changeOf, countsOf}
+use Rattle.blocks.specs.Gains.{gains}
+use Rattle.marks.specs.Counts.{Statements, truths, sayings, marksOf, changeOf, countsOf}
 use Rattle.book.specs.Books.{Shows}
 use Rattle.book.specs.Calls.{answerOf, Called}
 use Rattle.demands.specs.Worth.{unchanged, noCounts}

@@ -11,7 +11,8 @@ use native.Mathlib.Nat.{min-le-left}
 use lib.Dec.{eqb}
 use Rattle.sorts.specs.Numbers.{conclusions}
 use Rattle.rules.specs.Standing.{In, Above, Bits}
-use Rattle.marks.specs.Counts.{Statements, truths, sayings, risen, gains, ones, marksOf}
+use Rattle.blocks.specs.Gains.{risen, gains}
+use Rattle.marks.specs.Counts.{Statements, truths, sayings, ones, marksOf}
 
 -- a mark that is 0 or 1 before and after
 one-balance : (a b : ℕ) → a ≤ 1 → b ≤ 1 → risen a b + cond (eqb a 1) 1 0 ≡ cond (eqb b 1) 1 0 + risen b a

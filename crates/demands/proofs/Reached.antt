@@ -23,7 +23,8 @@ use Rattle.book.specs.declared.Answer.{Answer}
 use Rattle.book.specs.declared.Answer.the-variants.{Permitted, NotPermitted, Refused}
 use Rattle.book.specs.declared.Answered.{Answered}
 use Rattle.book.specs.Machine.{State, Verdict, changes, asks, refuses, start, step, member}
-use Rattle.marks.specs.Counts.{Statements, truths, sayings, gains, ones, marksOf, changeOf, countsOf, changeIn}
+use Rattle.blocks.specs.Gains.{gains}
+use Rattle.marks.specs.Counts.{Statements, truths, sayings, ones, marksOf, changeOf, countsOf, changeIn}
 use Rattle.demands.specs.Worth.{reported}
 use Rattle.book.specs.Books.{BookForm, Shows}
 use Rattle.book.specs.Calls.{answerOf, marksAfter, Follows, Called}

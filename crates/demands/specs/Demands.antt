@@ -18,7 +18,8 @@ use Rattle.marks.specs.declared.Counts.{Counts}
 use Rattle.book.specs.declared.Answered.{Answered}
 use Rattle.book.specs.Machine.{State, changes, asks, stands, start, step}
 use Rattle.book.specs.Closed.{Stands, Lacking}
-use Rattle.marks.specs.Counts.{Statements, gains, ones, marksOf, countsOf}
+use Rattle.blocks.specs.Gains.{gains}
+use Rattle.marks.specs.Counts.{Statements, ones, marksOf, countsOf}
 use Rattle.book.specs.Books.{BookForm, Shows}
 use Rattle.book.specs.Calls.{answerOf}
 use Rattle.book.specs.Chains.{Call, records, runs}

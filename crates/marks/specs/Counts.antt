@@ -1,25 +1,16 @@
 -- Document 01: "gained, the marks that went from 0 to 1 in that call; lost, those that went from 1 to 0; and the net, which is
 -- gained less lost and may be below zero." Document 02, 1: "The counts become four: truths gained and lost, sayings gained and
 -- lost", with a net for each.
-use Prim.Native.Nat.{ℕ, zero, _+_}
-use mathlib.Core.Bool.{cond, _&&_}
+use Prim.Native.Nat.{ℕ, _+_}
+use mathlib.Core.Bool.{cond}
 use mathlib.Core.List.{List, [], _∷_}
 use lib.Dec.{eqb}
 use lib.ListN.{take, drop}
 use lib.IntN.{pos, _-ℤ_}
 use Rattle.sorts.specs.Numbers.{conclusions}
+use Rattle.blocks.specs.Gains.{gains}
 use Rattle.marks.specs.declared.Change.{Change}
 use Rattle.marks.specs.declared.Counts.{Counts}
-
--- 1 where a mark went from 0 to 1
-abbrev pub risen : ℕ → ℕ → ℕ
-risen a b = cond (eqb a 0 && eqb b 1) 1 0
-
--- How many marks went from 0 to 1.
-unfoldable pub gains : List ℕ → List ℕ → ℕ
-gains [] n = 0
-gains (a ∷ m) [] = 0
-gains (a ∷ m) (b ∷ n) = risen a b + gains m n
 
 -- 1 where a mark stands
 abbrev pub oneOf : ℕ → ℕ

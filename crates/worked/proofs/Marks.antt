@@ -11,7 +11,8 @@ use Rattle.exact.specs.Writing.{writtenRecord}
 use Rattle.rules.specs.Standing.{Bits}
 use Rattle.rules.proofs.Saturation.{same-marks}
 use Rattle.book.specs.Machine.{State, start}
-use Rattle.marks.specs.Counts.{Statements, truths, sayings, gains, ones, marksOf, changeOf, countsOf, changeIn}
+use Rattle.blocks.specs.Gains.{gains}
+use Rattle.marks.specs.Counts.{Statements, truths, sayings, ones, marksOf, changeOf, countsOf, changeIn}
 use Rattle.book.specs.Chains.{runs}
 use Rattle.demands.proofs.Balance.{balance, kind-length, kind-bits}
 use Rattle.demands.proofs.Existence.{chain-some}
