@@ -1,0 +1,11 @@
+pub mod Compare
+pub mod Examples
+pub mod Form
+pub mod Numbers
+pub mod Order
+pub mod Prefix
+pub mod RowOrder
+pub mod Sets
+pub mod Size
+pub mod Tables
+pub mod Turns
