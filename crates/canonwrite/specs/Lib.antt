@@ -1,0 +1,4 @@
+pub mod Answers
+pub mod Buffer
+pub mod Model
+pub mod inner
