@@ -1,6 +1,5 @@
-pub mod Allowed
+pub mod CanonicalRecords
 pub mod Exact
 pub mod Examples
 pub mod Faults
 pub mod Letters
-pub mod Reread

@@ -38,11 +38,14 @@ use Rattle.reader.specs.declared.records.Found.the-variants.{Asks, Full,
 use Rattle.reader.specs.declared.records.Reading.{Reading}
 use Rattle.ranges.specs.Bytes.{Outcome, got, refused, andThen, upto}
 use Rattle.grants.specs.Grants.{readGrant, readConcl}
-use Rattle.reader.specs.Records.{Record, enter, remove, query, readMark, readEntry, readLicence, readQuery, readContent, readRecord, nothingDeclared}
+use Rattle.reader.specs.Records.{Record, enter, remove, query, readMark, readEntry, readLicence, readQuery, readContent, readRecord, nothingDeclared, canonRecord, readCanonical}
 use Rattle.reader.specs.Requests.{numberFound, fits, foundOf, numberedBy, numbers, TurnedBack, Reads}
-use Rattle.grants.specs.inner.OnePass.{onOutcome, onGrant, onConcl, numGrant, numConcl}
+use Rattle.grants.specs.inner.OnePass.{onOutcome, onGrant, onConcl}
+use Rattle.canon.specs.Canon.{canon, canonConcl}
+use Rattle.canonread.specs.inner.Again.{numForm, numConclForm}
+use Rattle.canonread.proofs.Fuse.{fuse-form, fuse-concl-form}
 use Rattle.reader.specs.inner.OneRecord.{starting, noR, given, entryOf, numEntry, known, removalOf, numRemoval, queryOf, numQuery, numLicence, numContent, numRecord}
-use Rattle.grants.proofs.Fuse.{FuseG, FuseC, fuse-grant, fuse-concl}
+use Rattle.grants.proofs.Fuse.{FuseG, FuseC}
 
 -- what is promised of a record that was read as o, over a table that shows N
 record Right (N : List Grant) (t : Table) (o : Outcome Record) (r : Reading) : Type 0 where
@@ -53,6 +56,21 @@ record Right (N : List Grant) (t : Table) (o : Outcome Record) (r : Reading) : T
 -- a record that numbers nothing keeps the table
 abbrev Keeps : Table → Reading → Type 0
 Keeps t r = numbers (r .found) ≡ false → r .table ≡ t
+
+-- a record read is brought to its canonical form
+abbrev inForm : Outcome Record → Outcome Record
+inForm o = andThen o (λ r n. got (canonRecord r) n)
+
+-- and so is its grant, first
+grant-first : (r : Grant → Record) → ((g : Grant) → canonRecord (r g) ≡ r (canon g)) → (o : Outcome Grant) →
+    inForm (andThen o (λ g n. got (r g) n)) ≡ andThen (andThen o (λ g n. got (canon g) n)) (λ g n. got (r g) n)
+grant-first r e (got g n) = ap (λ (x : Record). got x n) (e g)
+grant-first r e (refused k) = refl
+
+-- or its conclusion
+concl-first : (o : Outcome Concl) → inForm (andThen o (λ c n. got (query c) n)) ≡ andThen (andThen o (λ c n. got (canonConcl c) n)) (λ c n. got (query c) n)
+concl-first (got c n) = refl
+concl-first (refused k) = refl
 
 module _ (t : Table) (f : TableForm t) where
   abbrev N : List Grant
@@ -188,42 +206,47 @@ module _ (t : Table) (f : TableForm t) where
   -- whole records
 
   module _ (s : List ℕ) where
-    grant-fused : (at : ℕ) → FuseG N (readGrant depths s at) (numGrant depths s at (starting t))
-    grant-fused at = fuse-grant depths (omega arith) s at (starting t) N start-good
+    grant-fused : (at : ℕ) → FuseG N (andThen (readGrant depths s at) (λ g n. got (canon g) n)) (numForm s at (starting t))
+    grant-fused at = fuse-form s at (starting t) N start-good
 
-    entry-content : (by : Status) (at : ℕ) → Right N t (readEntry (enter by) s at) (numEntry by s at t)
+    entry-content : (by : Status) (at : ℕ) → Right N t (inForm (readEntry (enter by) s at)) (numEntry by s at t)
     unfolding readEntry numEntry
-    entry-content by at = entry-right by (readGrant depths s at) (numGrant depths s at (starting t)) (grant-fused at)
+    entry-content by at =
+        rw (grant-first (enter by) (λ g. refl) (readGrant depths s at))
+        (entry-right by (andThen (readGrant depths s at) (λ g n. got (canon g) n)) (numForm s at (starting t)) (grant-fused at))
 
-    removal-content : (by : Status) (at : ℕ) → Right N t (readEntry (remove by) s at) (numRemoval by s at t)
+    removal-content : (by : Status) (at : ℕ) → Right N t (inForm (readEntry (remove by) s at)) (numRemoval by s at t)
     unfolding readEntry numRemoval
-    removal-content by at = removal-right by (readGrant depths s at) (numGrant depths s at (starting t)) (grant-fused at)
+    removal-content by at =
+        rw (grant-first (remove by) (λ g. refl) (readGrant depths s at))
+        (removal-right by (andThen (readGrant depths s at) (λ g n. got (canon g) n)) (numForm s at (starting t)) (grant-fused at))
 
-    licence-right : (enters : Bool) (at : ℕ) → Right N t (readLicence (cond enters enter remove) s at) (numLicence enters s at t)
+    licence-right : (enters : Bool) (at : ℕ) → Right N t (inForm (readLicence (cond enters enter remove) s at)) (numLicence enters s at t)
     unfolding readLicence numLicence
     licence-right enters at = go enters (upto (speakers - 1) s at)
       where
-        go : (b : Bool) (o : Outcome ℕ) → Right N t (andThen o (λ p n. readEntry (cond b enter remove (Issued (record { 0 = p }))) s n))
+        go : (b : Bool) (o : Outcome ℕ) → Right N t (inForm (andThen o (λ p n. readEntry (cond b enter remove (Issued (record { 0 = p }))) s n)))
             (onOutcome o (noR t) (λ p n. cond b (numEntry (Issued (record { 0 = p })) s n t) (numRemoval (Issued (record { 0 = p })) s n t)))
         go b (refused k) = refused-right k
         go true (got p n) = entry-content (Issued (record { 0 = p })) n
         go false (got p n) = removal-content (Issued (record { 0 = p })) n
 
-    content-right : (k : Kind) (at : ℕ) → Right N t (readContent k s at) (numContent k s at t)
+    content-right : (k : Kind) (at : ℕ) → Right N t (inForm (readContent k s at)) (numContent k s at t)
     unfolding readContent readQuery numContent numQuery
     content-right Kind.Tg at = entry-content Trusted at
     content-right Kind.St at = removal-content Trusted at
     content-right Kind.Li at = licence-right true at
     content-right Kind.Wd at = licence-right false at
     content-right Kind.Qu at =
-        query-right (readConcl (readGrant depths s) nothingDeclared s at) (numConcl (numGrant depths s) nothingDeclared s at (starting t))
-        (fuse-concl (readGrant depths s) (numGrant depths s) (fuse-grant depths (omega arith) s) nothingDeclared s at (starting t) N start-good)
+        rw (concl-first (readConcl (readGrant depths s) nothingDeclared s at))
+        (query-right (andThen (readConcl (readGrant depths s) nothingDeclared s at) (λ c n. got (canonConcl c) n)) (numConclForm nothingDeclared s at (starting t))
+        (fuse-concl-form s at (starting t) N start-good nothingDeclared))
 
-    record-right : Right N t (readRecord s) (numRecord s t)
-    unfolding readRecord numRecord
+    record-right : Right N t (readCanonical s) (numRecord s t)
+    unfolding readCanonical readRecord numRecord
     record-right = go (readMark s)
       where
-        go : (o : Outcome Kind) → Right N t (andThen o (λ k n. readContent k s n)) (onOutcome o (noR t) (λ k n. numContent k s n t))
+        go : (o : Outcome Kind) → Right N t (inForm (andThen o (λ k n. readContent k s n))) (onOutcome o (noR t) (λ k n. numContent k s n t))
         go (got k n) = content-right k n
         go (refused k) = refused-right k
 
@@ -260,16 +283,16 @@ licence-keeps enters s at t = go enters (upto (speakers - 1) s at)
   where
     go : (b : Bool) (o : Outcome ℕ) → Keeps t (onOutcome o (noR t) (λ p n. cond b (numEntry (Issued (record { 0 = p })) s n t) (numRemoval (Issued (record { 0 = p })) s n t)))
     go b (refused k) e = refl
-    go true (got p n) e = entry-keeps (Issued (record { 0 = p })) t (numGrant depths s n (starting t)) e
-    go false (got p n) e = removal-keeps (Issued (record { 0 = p })) t (numGrant depths s n (starting t)) e
+    go true (got p n) e = entry-keeps (Issued (record { 0 = p })) t (numForm s n (starting t)) e
+    go false (got p n) e = removal-keeps (Issued (record { 0 = p })) t (numForm s n (starting t)) e
 
 content-keeps : (k : Kind) (s : List ℕ) (at : ℕ) (t : Table) → Keeps t (numContent k s at t)
 unfolding numContent numEntry numRemoval numQuery
-content-keeps Kind.Tg s at t e = entry-keeps Trusted t (numGrant depths s at (starting t)) e
-content-keeps Kind.St s at t e = removal-keeps Trusted t (numGrant depths s at (starting t)) e
+content-keeps Kind.Tg s at t e = entry-keeps Trusted t (numForm s at (starting t)) e
+content-keeps Kind.St s at t e = removal-keeps Trusted t (numForm s at (starting t)) e
 content-keeps Kind.Li s at t e = licence-keeps true s at t e
 content-keeps Kind.Wd s at t e = licence-keeps false s at t e
-content-keeps Kind.Qu s at t e = query-keeps t (numConcl (numGrant depths s) nothingDeclared s at (starting t)) e
+content-keeps Kind.Qu s at t e = query-keeps t (numConclForm nothingDeclared s at (starting t)) e
 
 record-keeps : (s : List ℕ) (t : Table) → Keeps t (numRecord s t)
 unfolding numRecord
@@ -313,8 +336,8 @@ reads-within s t r l e =
       found = λ f. record-right t f s .found;
       rows = λ f. record-right t f s .rows;
       refusals = λ f k.
-          subst (λ (x : Found). (numberFound x ≡ some k) ↔ TurnedBack (rowsOut (t .rows) (t .count)) (readRecord s) k) (sym (record-right t f s .found))
-          (found-number k (rowsOut (t .rows) (t .count)) (readRecord s));
+          subst (λ (x : Found). (numberFound x ≡ some k) ↔ TurnedBack (rowsOut (t .rows) (t .count)) (readCanonical s) k) (sym (record-right t f s .found))
+          (found-number k (rowsOut (t .rows) (t .count)) (readCanonical s));
       form = λ f. record-right t f s .form;
       kept = record-keeps s t;
       within = λ h. refl;

@@ -13,6 +13,7 @@ use Rattle.reader.specs.declared.records.Kind.{Kind}
 use Rattle.reader.specs.declared.records.Kind.the-variants.{Tg, St, Li, Wd, Qu}
 use Rattle.ranges.specs.Bytes.{Outcome, got, refused, andThen, byteAt, upto}
 use Rattle.grants.specs.Grants.{readGrant, readConcl}
+use Rattle.canon.specs.Canon.{canon, canonConcl}
 
 -- "TG enters a trusted grant, ST strikes it: a grant follows. LI issues a licence, WD withdraws it: an issuer byte 00 to 0F,
 -- then a grant. QU queries: one closed conclusion follows". So a record enters a grant with a status, removes one, or asks.
@@ -70,6 +71,18 @@ readContent Li s at = readLicence enter s at
 readContent Wd s at = readLicence remove s at
 readContent Qu s at = readQuery s at
 
--- A record, which may be followed by others: what it asks and its length.
+-- A record as it is written, which may be followed by others, and its length.
 unfoldable pub readRecord : List ℕ → Outcome Record
 readRecord s = andThen (readMark s) (λ k n. readContent k s n)
+
+-- Document 02, 3: "two grants are the same when their bytes agree after inner grants are brought to this form, conditions are put in
+-- ascending order of bytes and repeats are dropped." A record with its grants in that form; all else of it stays.
+abbrev pub canonRecord : Record → Record
+canonRecord (enter by g) = enter by (canon g)
+canonRecord (remove by g) = remove by (canon g)
+canonRecord (query c) = query (canonConcl c)
+
+-- What a record asks and its length: "numbers follow that form, and the plain machine's grants .. are in it. Condition counts are
+-- checked as written", and so is every fault, and its length is as it was written.
+unfoldable pub readCanonical : List ℕ → Outcome Record
+readCanonical s = andThen (readRecord s) (λ r n. got (canonRecord r) n)

@@ -19,7 +19,7 @@ use Rattle.reader.specs.declared.records.Found.{Found}
 use Rattle.reader.specs.declared.records.Found.the-variants.{Asks, Full, Unknown, Refused}
 use Rattle.reader.specs.declared.records.Reading.{Reading}
 use Rattle.ranges.specs.Bytes.{Outcome, got, refused}
-use Rattle.reader.specs.Records.{Record, enter, remove, query, readRecord}
+use Rattle.reader.specs.Records.{Record, enter, remove, query, readCanonical}
 use Rattle.reader.specs.inner.OneRecord.{numRecord}
 
 -- "If an answer is an enum, a definition gives this paper's number and values for each of its cases." What the reader finds is a
@@ -82,12 +82,12 @@ TurnedBack N (got (query c) n) k = (fits (numberConcl c N) ≡ false) × (k ≡ 
 -- THE PROMISE of the reader, over any table: a count above 64 is out of form, 9; over a table in form the answer and the rows,
 -- written out, are what the two functions say, each number under its condition and no other, and the table left is in form; a
 -- record that gives no numbers leaves the table as it was, in form or not. Over any table with a count up to 64, in form or not,
--- it is the one pass over the rows as they are.
+-- it is what the readers of grants and conclusions find over the rows as they are.
 pub record Reads (s : List ℕ) (t : Table) (r : Reading) : Type 0 where
   pub over : grants < t .count → r ≡ record { table = t; found = Refused 9 }
-  pub found : TableForm t → r .found ≡ foundOf (rowsOut (t .rows) (t .count)) (readRecord s)
-  pub rows : TableForm t → rowsOut (r .table .rows) (r .table .count) ≡ numberedBy (rowsOut (t .rows) (t .count)) (readRecord s)
-  pub refusals : TableForm t → (k : ℕ) → (numberFound (r .found) ≡ some k) ↔ TurnedBack (rowsOut (t .rows) (t .count)) (readRecord s) k
+  pub found : TableForm t → r .found ≡ foundOf (rowsOut (t .rows) (t .count)) (readCanonical s)
+  pub rows : TableForm t → rowsOut (r .table .rows) (r .table .count) ≡ numberedBy (rowsOut (t .rows) (t .count)) (readCanonical s)
+  pub refusals : TableForm t → (k : ℕ) → (numberFound (r .found) ≡ some k) ↔ TurnedBack (rowsOut (t .rows) (t .count)) (readCanonical s) k
   pub form : TableForm t → TableForm (r .table)
   pub kept : numbers (r .found) ≡ false → r .table ≡ t
   pub within : t .count ≤ grants → r ≡ numRecord s t

@@ -9,7 +9,6 @@ use sorts::Concl;
 use sorts::GrantNo;
 use sorts::Prin;
 use sorts::Refusal;
-use sorts::Row;
 use sorts::Status;
 ghost use mathlib.Core.Path.{_≡_};
 ghost use Prim.Native.Nat.{_≤_};
@@ -165,7 +164,7 @@ fn read_entry(s: &[u8], at: usize, by: Status, t: Table) -> Reading
     requires { ⌜ t .count ≤ grants ⌝ }
     ensures { λ r. ⌜ r ≡ numEntry by (now (s .entry)) at t ⌝ }
 {
-    let g = grants::read_grant(s, at, Row::DEPTHS, start(t));
+    let g = canonread::read_grant(s, at, start(t));
     let u = g.numbering;
     let o = g.out;
     match o {
@@ -192,7 +191,7 @@ fn read_removal(s: &[u8], at: usize, by: Status, t: Table) -> Reading
     requires { ⌜ t .count ≤ grants ⌝ }
     ensures { λ r. ⌜ r ≡ numRemoval by (now (s .entry)) at t ⌝ }
 {
-    let g = grants::read_grant(s, at, Row::DEPTHS, start(t));
+    let g = canonread::read_grant(s, at, start(t));
     let u = g.numbering;
     let o = g.out;
     match o {
@@ -210,7 +209,7 @@ fn read_query(s: &[u8], at: usize, t: Table) -> Reading
     ensures { λ r. ⌜ r ≡ numQuery (now (s .entry)) at t ⌝ }
 {
     let nothing = Scope { prins: 0, res: 0 };
-    let c = grants::read_concl(s, at, Row::DEPTHS, nothing, start(t));
+    let c = canonread::read_concl(s, at, nothing, start(t));
     let u = c.numbering;
     let o = c.out;
     match o {

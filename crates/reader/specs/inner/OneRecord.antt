@@ -4,7 +4,7 @@ use mathlib.Core.List.{List}
 use mathlib.Core.Bool.{Bool, true, false, cond}
 use lib.Dec.{leb}
 use Rattle.sorts.specs.declared.GrantNo.{GrantNo}
-use Rattle.sorts.specs.Numbers.{depths, speakers}
+use Rattle.sorts.specs.Numbers.{speakers}
 use Rattle.rows.specs.declared.Table.{Table}
 use Rattle.rows.specs.declared.Numbering.{Numbering}
 use Rattle.grants.specs.declared.GrantReading.{GrantReading}
@@ -22,7 +22,8 @@ use Rattle.reader.specs.declared.records.Found.the-variants.{Asks, Full,
 use Rattle.reader.specs.declared.records.Reading.{Reading}
 use Rattle.ranges.specs.Bytes.{Outcome, got, refused, upto}
 use Rattle.reader.specs.Records.{nothingDeclared, readMark}
-use Rattle.grants.specs.inner.OnePass.{onOutcome, onGrant, onConcl, numGrant, numConcl}
+use Rattle.grants.specs.inner.OnePass.{onOutcome, onGrant, onConcl}
+use Rattle.canonread.specs.inner.Again.{numForm, numConclForm}
 
 -- the table before the first grant of a record is numbered
 abbrev pub starting : Table → Numbering
@@ -43,7 +44,7 @@ abbrev pub entryOf : Status → Table → GrantReading → Reading
 entryOf by t r = onGrant (r .out) (noR t) (λ g n. given t (r .numbering) (Enter by g) n)
 
 unfoldable pub numEntry : Status → List ℕ → ℕ → Table → Reading
-numEntry by s at t = entryOf by t (numGrant depths s at (starting t))
+numEntry by s at t = entryOf by t (numForm s at (starting t))
 
 -- a removal where so many numbers were given before: of a grant that has one of them
 unfoldable pub known : ℕ → Bool → Status → GrantNo → ℕ → Found
@@ -53,13 +54,13 @@ abbrev pub removalOf : Status → Table → GrantReading → Reading
 removalOf by t r = onGrant (r .out) (noR t) (λ g n. record { table = t; found = known (t .count) (r .numbering .full) by g n })
 
 unfoldable pub numRemoval : Status → List ℕ → ℕ → Table → Reading
-numRemoval by s at t = removalOf by t (numGrant depths s at (starting t))
+numRemoval by s at t = removalOf by t (numForm s at (starting t))
 
 abbrev pub queryOf : Table → ConclReading → Reading
 queryOf t r = onConcl (r .out) (noR t) (λ c n. given t (r .numbering) (Query c) n)
 
 unfoldable pub numQuery : List ℕ → ℕ → Table → Reading
-numQuery s at t = queryOf t (numConcl (numGrant depths s) nothingDeclared s at (starting t))
+numQuery s at t = queryOf t (numConclForm nothingDeclared s at (starting t))
 
 unfoldable pub numLicence : Bool → List ℕ → ℕ → Table → Reading
 numLicence enters s at t =

@@ -1,0 +1,4 @@
+pub mod Blank
+pub mod Fuse
+pub mod Read
+pub mod Whole
