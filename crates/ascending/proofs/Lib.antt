@@ -1,0 +1,4 @@
+pub mod Comparing
+pub mod Keys
+pub mod Places
+pub mod Rows
