@@ -19,14 +19,17 @@ use Rattle.rows.proofs.Bytes.{no-true}
 use Rattle.rows.proofs.Place.{Distinct, place-at, has-lt}
 use Rattle.rows.proofs.Shown.{form-shown, out-length}
 use Rattle.ranges.specs.Bytes.{Outcome, got, refused}
-use Rattle.reader.specs.Records.{Record, enter, remove, query, readRecord}
+use Rattle.reader.specs.Records.{Record, enter, remove, query, readCanonical}
 use Rattle.reader.specs.Requests.{fits, foundOf, numberedBy, Reads}
 use Rattle.reader.specs.declared.records.Request.the-variants.{Enter, Remove, Query}
 use Rattle.reader.specs.declared.records.Found.{Found}
 use Rattle.reader.specs.declared.records.Found.the-variants as found
 use Rattle.reader.specs.declared.records.Reading.{Reading}
 use Rattle.exact.specs.Writing.{AllowedRecord}
-use Rattle.exact.proofs.Exact.{record-exact}
+use Rattle.canon.specs.Canon.{Canonical, CanonicalConcl}
+use Rattle.canon.specs.CanonicalRows.{CanonicalRows}
+use Rattle.canon.proofs.Numbers.{AllInForm, rows-all, all-rows, number-in-form, concl-in-form}
+use Rattle.exact.proofs.CanonicalRecords.{canonical-exact}
 use Rattle.rows.proofs.Appended.{Ext, ext-refl, ext-length, number-ext, concl-more}
 use Rattle.rules.specs.Standing.{standing}
 use Rattle.rules.proofs.Standing.{standing-length, standing-bits}
@@ -56,6 +59,10 @@ module _ (b : Book) (m s : List ℕ) (f : BookForm b m) (r : Reading) (R : Reads
   len : b .table .count ≡ length N
   len = sym (out-length (b .table .rows) (b .table .count))
 
+  -- what has a number is in canonical form
+  numbered : AllInForm N
+  numbered = rows-all (b .table) (f .canonical)
+
   -- what the code needs holds
   pub ready : Ready b m r
   ready = record {
@@ -67,7 +74,7 @@ module _ (b : Book) (m s : List ℕ) (f : BookForm b m) (r : Reading) (R : Reads
   }
 
   -- flags in form, with one more or one less
-  module _ (t : Table) (F : TableForm t) (grows : b .table .count ≤ t .count) (at v : ℕ) (inside : at < rowFlags * t .count) (bits : v ≤ 1) where
+  module _ (t : Table) (F : TableForm t) (K : CanonicalRows t) (grows : b .table .count ≤ t .count) (at v : ℕ) (inside : at < rowFlags * t .count) (bits : v ≤ 1) where
     set-form : BookForm (flagged t (b .flags) at v) (standing (t .rows) (set (b .flags) at v))
     set-form = record {
       marks = standing-length (t .rows) (set (b .flags) at v);
@@ -75,6 +82,7 @@ module _ (b : Book) (m s : List ℕ) (f : BookForm b m) (r : Reading) (R : Reads
       flags = length-set (b .flags) at v ∙ f .flags;
       flagBits = λ i. bit-at i (ℕ-discrete i at);
       table = F;
+      canonical = K;
       unflagged = λ i l. getD-set-other (b .flags) at i v 0 (λ (e : i ≡ at). omega arith) ∙ f .unflagged i (omega arith);
     }
       where
@@ -100,7 +108,7 @@ module _ (b : Book) (m s : List ℕ) (f : BookForm b m) (r : Reading) (R : Reads
     no-asks e = let z : _≡_ {A = ℕ} 0 1 = cc in omega arith
 
     -- to set a flag over a table that shows N′, or to take it away
-    module _ (t : Table) (F : TableForm t) (N′ : List Grant) (is : rowsOut (t .rows) (t .count) ≡ N′) (ext : Ext N N′)
+    module _ (t : Table) (F : TableForm t) (N′ : List Grant) (is : rowsOut (t .rows) (t .count) ≡ N′) (ext : Ext N N′) (all : AllInForm N′)
         (by : Status) (known : StatusForm by) (g : Grant) (there : has g N′ ≡ true) (v : Bool) (M′ : State) (numbers : M′ .N ≡ N′)
         (changed : stands M′ by g ≡ v)
         (others : (by′ : Status) (h : Grant) → (_≡_ {A = Entry} (record { by = by′; what = h }) (record { by = by; what = g }) → ⊥) → stands M′ by′ h ≡ stands M by′ h) where
@@ -122,7 +130,7 @@ module _ (b : Book) (m s : List ℕ) (f : BookForm b m) (r : Reading) (R : Reads
         marks = refl;
         shows = shows-set sh len (f .unflagged) N′ ext distinct′ by known g there v M′ numbers changed others (f .flags)
             (let c = F .count in omega (arith, len′)) t is;
-        form = set-form t F (let x = ext-length ext in omega (arith, len, len′)) (flagPlace by (place g N′)) (bit v) inside (bit-le v);
+        form = set-form t F (all-rows t N′ is all) (let x = ext-length ext in omega (arith, len, len′)) (flagPlace by (place g N′)) (bit v) inside (bit-le v);
         kept = λ k e. absurd (no-change e);
       }
         where
@@ -139,12 +147,12 @@ module _ (b : Book) (m s : List ℕ) (f : BookForm b m) (r : Reading) (R : Reads
     abbrev entered : Status → Grant → State
     entered by g = record { entries = insert (entry by g) E; N = number g N }
 
-    module _ (by : Status) (known : StatusForm by) (g : Grant) (n : ℕ) (rows′ : fits (number g N) ≡ true → rowsOut (r .table .rows) (r .table .count) ≡ number g N) where
+    module _ (by : Status) (known : StatusForm by) (g : Grant) (own : Canonical g) (n : ℕ) (rows′ : fits (number g N) ≡ true → rowsOut (r .table .rows) (r .table .count) ≡ number g N) where
       enter-steps : (c : Bool) → fits (number g N) ≡ c → Steps (cond c (record { next = entered by g; says = changes; used = n }) (refuse M 6 n)) b m
           (appliedTo b m (r .table) (cond c (found.Asks (Enter by (record { 0 = place g (number g N) })) n) (found.Full n)))
           (marksAppliedTo b m (r .table) (cond c (found.Asks (Enter by (record { 0 = place g (number g N) })) n) (found.Full n)))
       enter-steps true e =
-          change-steps (r .table) (R .form (f .table)) (number g N) (rows′ e) (number-ext g N) by known g (number-has g N) true (entered by g) refl
+          change-steps (r .table) (R .form (f .table)) (number g N) (rows′ e) (number-ext g N) (number-in-form g N own numbered) by known g (number-has g N) true (entered by g) refl
           (insert-same (entry by g) E) (λ by′ h d. insert-other (entry by g) (entry by′ h) E d) n
       enter-steps false e = refused-steps 6 n
 
@@ -163,7 +171,7 @@ module _ (b : Book) (m s : List ℕ) (f : BookForm b m) (r : Reading) (R : Reads
           (marksAppliedTo b m (r .table) (cond d (found.Asks (Remove by (record { 0 = place g N })) n) (found.Unknown n)))
       remove-steps true true e h =
           rw (flag-is h ∙ ap bit e)
-          (change-steps (b .table) (f .table) N refl (ext-refl N) by known g h false (removed by g) refl
+          (change-steps (b .table) (f .table) N refl (ext-refl N) numbered by known g h false (removed by g) refl
           (delete-same (entry by g) E) (λ by′ h d. delete-other (entry by g) (entry by′ h) E d) n)
       remove-steps true false e h = absurd (no-true (sym h ∙ sh .within by g e .0))
       remove-steps false true e h = rw (flag-is h ∙ ap bit e) (refused-steps 7 n)
@@ -171,12 +179,12 @@ module _ (b : Book) (m s : List ℕ) (f : BookForm b m) (r : Reading) (R : Reads
 
     -- to query
 
-    query-steps : (c : Concl) (n : ℕ) → (fits (numberConcl c N) ≡ true → rowsOut (r .table .rows) (r .table .count) ≡ numberConcl c N) → (d : Bool) → fits (numberConcl c N) ≡ d →
+    query-steps : (c : Concl) → CanonicalConcl c → (n : ℕ) → (fits (numberConcl c N) ≡ true → rowsOut (r .table .rows) (r .table .count) ≡ numberConcl c N) → (d : Bool) → fits (numberConcl c N) ≡ d →
         Steps (cond d (record { next = record { entries = E; N = numberConcl c N }; says = asks (numberOf (conclOf (numberConcl c N) c)); used = n }) (refuse M 6 n)) b m
         (appliedTo b m (r .table) (cond d (found.Asks (Query (conclOf (numberConcl c N) c)) n) (found.Full n)))
         (marksAppliedTo b m (r .table) (cond d (found.Asks (Query (conclOf (numberConcl c N) c)) n) (found.Full n)))
     unfolding answerOf marksAfter
-    query-steps c n rows′ true e = record {
+    query-steps c own n rows′ true e = record {
       answer = refl;
       used = refl;
       marks = refl;
@@ -187,6 +195,7 @@ module _ (b : Book) (m s : List ℕ) (f : BookForm b m) (r : Reading) (R : Reads
         flags = f .flags;
         flagBits = f .flagBits;
         table = F;
+        canonical = all-rows (r .table) (numberConcl c N) (rows′ e) (concl-in-form c N own numbered);
         unflagged = λ i l. f .unflagged i (omega (arith, len, more));
       };
       kept = λ k e. absurd (no-asks e);
@@ -197,25 +206,25 @@ module _ (b : Book) (m s : List ℕ) (f : BookForm b m) (r : Reading) (R : Reads
 
         more : length N ≤ r .table .count
         more = let x = ext-length (concl-more c N) in let y = sym (out-length (r .table .rows) (r .table .count)) ∙ ap length (rows′ e) in omega arith
-    query-steps c n rows′ false e = refused-steps 6 n
+    query-steps c own n rows′ false e = refused-steps 6 n
 
-    record-steps : (q : Record) (n : ℕ) → readRecord s ≡ got q n → Steps (act M q n) b m
+    record-steps : (q : Record) (n : ℕ) → readCanonical s ≡ got q n → Steps (act M q n) b m
         (appliedTo b m (r .table) (foundOf N (got q n))) (marksAppliedTo b m (r .table) (foundOf N (got q n)))
     unfolding act foundOf numberedBy AllowedRecord
     record-steps (enter by g) n e =
-        enter-steps by (record-exact s (enter by g) n e .2 .0) g n
+        enter-steps by (canonical-exact s (enter by g) n e .0 .0) g (canonical-exact s (enter by g) n e .1) n
         (λ c. R .rows (f .table) ∙ ap (numberedBy N) e ∙ ap (λ (k : Bool). cond k (number g N) N) c) (fits (number g N)) refl
-    record-steps (remove by g) n e = remove-steps by (record-exact s (remove by g) n e .2 .0) g n (stands M by g) (has g N) refl refl
-    record-steps (query c) n e = query-steps c n (λ d. R .rows (f .table) ∙ ap (numberedBy N) e ∙ ap (λ (k : Bool). cond k (numberConcl c N) N) d) (fits (numberConcl c N)) refl
+    record-steps (remove by g) n e = remove-steps by (canonical-exact s (remove by g) n e .0 .0) g n (stands M by g) (has g N) refl refl
+    record-steps (query c) n e = query-steps c (canonical-exact s (query c) n e .1) n (λ d. R .rows (f .table) ∙ ap (numberedBy N) e ∙ ap (λ (k : Bool). cond k (numberConcl c N) N) d) (fits (numberConcl c N)) refl
 
-    outcome-steps : (o : Outcome Record) → readRecord s ≡ o → Steps (acted M o) b m (appliedTo b m (r .table) (foundOf N o)) (marksAppliedTo b m (r .table) (foundOf N o))
+    outcome-steps : (o : Outcome Record) → readCanonical s ≡ o → Steps (acted M o) b m (appliedTo b m (r .table) (foundOf N o)) (marksAppliedTo b m (r .table) (foundOf N o))
     unfolding foundOf
     outcome-steps (got q n) e = record-steps q n e
     outcome-steps (refused k) e = refused-steps k 0
 
-    all-steps : Steps (acted M (readRecord s)) b m (appliedTo b m (r .table) (r .found)) (marksAppliedTo b m (r .table) (r .found))
+    all-steps : Steps (acted M (readCanonical s)) b m (appliedTo b m (r .table) (r .found)) (marksAppliedTo b m (r .table) (r .found))
     all-steps =
-        subst (λ (x : Found). Steps (acted M (readRecord s)) b m (appliedTo b m (r .table) x) (marksAppliedTo b m (r .table) x)) (sym (R .found (f .table))) (outcome-steps (readRecord s) refl)
+        subst (λ (x : Found). Steps (acted M (readCanonical s)) b m (appliedTo b m (r .table) x) (marksAppliedTo b m (r .table) x)) (sym (R .found (f .table))) (outcome-steps (readCanonical s) refl)
 
     follows-at : Follows M b m s (applied b m r) (marksApplied b m r)
     unfolding step applied marksApplied

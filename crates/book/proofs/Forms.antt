@@ -27,12 +27,12 @@ use Rattle.rows.specs.Allowed.{AllowedConcl}
 use Rattle.rows.proofs.Place.{has-in, has-lt}
 use Rattle.rows.proofs.Shown.{length-more}
 use Rattle.ranges.specs.Bytes.{Outcome, got, refused}
-use Rattle.reader.specs.Records.{Record, enter, remove, query, readRecord}
+use Rattle.reader.specs.Records.{Record, enter, remove, query, readCanonical}
 use Rattle.reader.specs.Requests.{fits, foundOf}
 use Rattle.reader.specs.declared.records.Request.the-variants.{Enter, Remove, Query}
 use Rattle.reader.specs.declared.records.Found.the-variants as found
 use Rattle.exact.specs.Writing.{AllowedRecord}
-use Rattle.exact.proofs.Exact.{record-exact}
+use Rattle.exact.proofs.CanonicalRecords.{canonical-exact}
 use Rattle.rules.specs.Rules.{RowsForm}
 use Rattle.book.specs.inner.Apply.{FoundFits}
 
@@ -123,10 +123,10 @@ module _ (N : List Grant) (small : length N ≤ grants) where
   record-fits (remove by g) n a = removing-fits by (a .0) g n (has g N) refl
   record-fits (query c) n a = query-fits c n (a .0) (fits (numberConcl c N)) refl
 
-  pub found-fits : (s : List ℕ) → FoundFits (foundOf N (readRecord s))
+  pub found-fits : (s : List ℕ) → FoundFits (foundOf N (readCanonical s))
   unfolding foundOf
-  found-fits s = go (readRecord s) refl
+  found-fits s = go (readCanonical s) refl
     where
-      go : (o : Outcome Record) → readRecord s ≡ o → FoundFits (foundOf N o)
-      go (got q n) e = record-fits q n (record-exact s q n e .2)
+      go : (o : Outcome Record) → readCanonical s ≡ o → FoundFits (foundOf N o)
+      go (got q n) e = record-fits q n (canonical-exact s q n e .0)
       go (refused k) e = tt

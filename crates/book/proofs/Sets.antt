@@ -9,7 +9,7 @@ use native.Mathlib.Nat.{not-suc-le-zero, le-refl}
 use native.Mathlib.Decide.{ℕ-discrete}
 use Rattle.sorts.specs.Flags.{sameStatus}
 use Rattle.sorts.proofs.Flags.{status-eq, status-refl}
-use Rattle.rows.specs.Written.{same}
+use Rattle.rows.specs.Written.{sameWritten}
 use Rattle.rows.proofs.Bytes.{same-eq, same-refl, no-true}
 use Rattle.book.specs.Machine.{Entry, sameEntry, member, insert, delete}
 
@@ -25,7 +25,7 @@ and-2 false b e = absurd (no-true e)
 
 pub entry-eq : (x y : Entry) → sameEntry x y ≡ true → x ≡ y
 entry-eq x y e =
-    λ i. record { by = status-eq (x .by) (y .by) (and-1 _ (same (x .what) (y .what)) e) i; what = same-eq (x .what) (y .what) (and-2 (sameStatus (x .by) (y .by)) _ e) i }
+    λ i. record { by = status-eq (x .by) (y .by) (and-1 _ (sameWritten (x .what) (y .what)) e) i; what = same-eq (x .what) (y .what) (and-2 (sameStatus (x .by) (y .by)) _ e) i }
 
 pub entry-refl : (x : Entry) → sameEntry x x ≡ true
 entry-refl x = rw (status-refl (x .by)) (same-refl (x .what))

@@ -10,19 +10,22 @@ use Rattle.sorts.specs.Flags.{StatusForm, rowFlags, allFlags, flag}
 use Rattle.rows.specs.Written.{Grant}
 use Rattle.rows.specs.Numbering.{has}
 use Rattle.rows.specs.Form.{rowsOut, TableForm}
+use Rattle.canon.specs.CanonicalRows.{CanonicalRows}
 use Rattle.book.specs.declared.Book.{Book}
 use Rattle.book.specs.Machine.{State, stands}
 use Rattle.book.specs.Closed.{grantAt}
 
 -- "A book is in form when it has 39,168 marks; marks and flags are 0 or 1; the count is at most 64; rows from the count on are
 -- blank with flags 0; every other row is in range, with unused conditions blank, distinct, of depth at most 4, uses only
--- variables it declares, and holds only lower-numbered grants." What is said of rows is TableForm.
+-- variables it declares, and holds only lower-numbered grants." What is said of rows is TableForm, and document 02, 3: "written out,
+-- the rows of a book in form are in" the canonical form.
 pub record BookForm (b : Book) (m : List ℕ) : Type 0 where
   pub marks : length m ≡ allMarks
   pub markBits : (i : ℕ) → getD m i 0 ≤ 1
   pub flags : length (b .flags) ≡ allFlags
   pub flagBits : (i : ℕ) → getD (b .flags) i 0 ≤ 1
   pub table : TableForm (b .table)
+  pub canonical : CanonicalRows (b .table)
   pub unflagged : (i : ℕ) → rowFlags * b .table .count ≤ i → getD (b .flags) i 0 ≡ 0
 
 abbrev pub bit : Bool → ℕ

@@ -5,11 +5,11 @@ use mathlib.Core.List.{List, [], _∷_, _++_}
 use Rattle.sorts.specs.declared.Status.{Status}
 use Rattle.sorts.specs.Numbers.{numberOf}
 use Rattle.sorts.specs.Flags.{sameStatus}
-use Rattle.rows.specs.Written.{Grant, same}
+use Rattle.rows.specs.Written.{Grant, sameWritten}
 use Rattle.rows.specs.Numbering.{number, numberConcl}
 use Rattle.rows.specs.Form.{conclOf}
 use Rattle.ranges.specs.Bytes.{Outcome, got, refused}
-use Rattle.reader.specs.Records.{Record, enter, remove, query, readRecord}
+use Rattle.reader.specs.Records.{Record, enter, remove, query, readCanonical}
 use Rattle.reader.specs.Requests.{fits}
 
 -- What stands: a grant with its status, trusted or issued by a principal.
@@ -28,8 +28,9 @@ pub record State : Type 0 where
 abbrev pub start : State
 start = record { entries = []; N = [] }
 
+-- Of grants in canonical form the same bytes are the same grant.
 abbrev pub sameEntry : Entry → Entry → Bool
-sameEntry x y = sameStatus (x .by) (y .by) && same (x .what) (y .what)
+sameEntry x y = sameStatus (x .by) (y .by) && sameWritten (x .what) (y .what)
 
 unfoldable pub member : Entry → List Entry → Bool
 member x [] = false
@@ -86,6 +87,7 @@ abbrev pub acted : State → Outcome Record → Step
 acted M (got r n) = act M r n
 acted M (refused k) = refuse M k 0
 
--- "From those bytes, T, L and N alone it accepts the record or refuses it".
+-- "From those bytes, T, L and N alone it accepts the record or refuses it". Document 02, 3: "the plain machine's grants .. are in" the
+-- canonical form.
 unfoldable pub step : State → List ℕ → Step
-step M s = acted M (readRecord s)
+step M s = acted M (readCanonical s)

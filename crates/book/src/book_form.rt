@@ -18,6 +18,9 @@ pub fn in_form(b: Book, marks: &[u8]) -> bool
     if !form::table_in_form(t) {
         return false;
     }
+    if !ascending::conditions_ascend(t) {
+        return false;
+    }
     if !bits::bits(marks) {
         return false;
     }

@@ -12,7 +12,7 @@ use Rattle.rows.specs.Written.{Grant}
 use Rattle.rows.specs.Numbering.{has, number}
 use Rattle.rows.proofs.Known.{numbered-known}
 use Rattle.ranges.specs.Bytes.{got}
-use Rattle.reader.specs.Records.{enter, readRecord}
+use Rattle.reader.specs.Records.{enter, readCanonical}
 use Rattle.reader.specs.Requests.{fits}
 use Rattle.rules.specs.Standing.{standing}
 use Rattle.book.specs.declared.Book.{Book}
@@ -51,7 +51,7 @@ module _ {b : Book} {m s : List ℕ} {r : Answered} {n : List ℕ} {M : State} (
   known : (g : Grant) → has g (M .N) ≡ true → number g (M .N) ≡ M .N
   known g = numbered-known (shown b m M (R .form) (R .shows)) g
 
-  pub enter-again : (by : Status) (g : Grant) (k : ℕ) → readRecord s ≡ got (enter by g) k → stands M by g ≡ true →
+  pub enter-again : (by : Status) (g : Grant) (k : ℕ) → readCanonical s ≡ got (enter by g) k → stands M by g ≡ true →
       (r .book ≡ b) × (n ≡ m) × (r .answer ≡ Changed noCounts)
   unfolding insert step act
   enter-again by g k e t = idle (ap (λ (x : Step). x .says) all) (ap (λ (x : Step). x .next) all)

@@ -12,7 +12,7 @@ use lib.Dec.{eqb}
 use Rattle.rows.specs.Numbering.{number, numberConcl}
 use Rattle.rows.proofs.Bytes.{no-true}
 use Rattle.ranges.specs.Bytes.{Outcome, got, refused}
-use Rattle.reader.specs.Records.{Record, enter, remove, query, readRecord}
+use Rattle.reader.specs.Records.{Record, enter, remove, query, readCanonical}
 use Rattle.reader.specs.Requests.{fits}
 use Rattle.book.specs.declared.Book.{Book}
 use Rattle.marks.specs.declared.Counts.{Counts}
@@ -25,6 +25,7 @@ use Rattle.demands.specs.Worth.{worth, reported}
 use Rattle.book.specs.Books.{BookForm}
 use Rattle.book.specs.Calls.{answerOf, marksAfter, Follows, Called}
 use Rattle.demands.specs.Demands.{Turned, Answers, Demand1}
+use Rattle.exact.proofs.CanonicalRecords.{canonical-refused}
 use Rattle.exact.proofs.Faults.{fault-range}
 use Rattle.demands.proofs.Shown.{shows-some}
 use Rattle.demands.proofs.Demand2.{answer-yes, answer-no}
@@ -61,11 +62,11 @@ module _ (M : State) (k : ℕ) where
   turned (refused j) = (λ e. let d : j ≡ k = cc in d, λ h. ap refuses h)
 
   -- a number that is said is 1 to 7
-  turned-range : (s : List ℕ) (o : Outcome Record) → readRecord s ≡ o → Turned M o k → (1 ≤ k) × (k ≤ 7)
+  turned-range : (s : List ℕ) (o : Outcome Record) → readCanonical s ≡ o → Turned M o k → (1 ≤ k) × (k ≤ 7)
   turned-range s (got (enter by g) n) e h = (omega (arith, h .1), omega (arith, h .1))
   turned-range s (got (remove by g) n) e h = (omega (arith, h .1), omega (arith, h .1))
   turned-range s (got (query c) n) e h = (omega (arith, h .1), omega (arith, h .1))
-  turned-range s (refused j) e h = let f = fault-range s j e in (omega (arith, h, f .0), omega (arith, h, f .1))
+  turned-range s (refused j) e h = let f = fault-range s j (canonical-refused s j e) in (omega (arith, h, f .0), omega (arith, h, f .1))
 
 -- what the answer says, by the verdict
 
@@ -140,7 +141,7 @@ module _ {M : State} {b : Book} {m s : List ℕ} {r : Answered} {n : List ℕ} (
   answers : Answers M b m s r n
   unfolding step marksAfter
   answers = record {
-    refusals = λ k. both-ways (as-number k) (turned M k (readRecord s));
+    refusals = λ k. both-ways (as-number k) (turned M k (readCanonical s));
     permitted = both-ways (as-answer Permitted) (answer-permitted m n (step M s .says));
     notPermitted = both-ways (as-answer NotPermitted) (answer-denied m n (step M s .says));
     changed = λ x. both-ways (as-answer (Changed x)) (answer-changed m n (step M s .says) x);
@@ -148,7 +149,7 @@ module _ {M : State} {b : Book} {m s : List ℕ} {r : Answered} {n : List ℕ} (
     kept = λ k e.
         let v = as-number k .0 e in
         (F .kept k v, F .marks ∙ ap (λ (w : Verdict). marksAfter w (r .book) m) v);
-    numbered = λ k e. turned-range M k s (readRecord s) refl (turned M k (readRecord s) .0 (as-number k .0 e));
+    numbered = λ k e. turned-range M k s (readCanonical s) refl (turned M k (readCanonical s) .0 (as-number k .0 e));
   }
 
 -- Every record of bytes and every lent book gets an answer, each under its condition and no other; a refused record leaves

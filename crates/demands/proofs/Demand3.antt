@@ -6,7 +6,7 @@ use native.Mathlib.Omega.{arith}
 use lib.ListN.{replicate}
 use Rattle.sorts.specs.Numbers.{allMarks}
 use Rattle.ranges.specs.Bytes.{Outcome, got, refused}
-use Rattle.reader.specs.Records.{Record, enter, remove, query, readRecord}
+use Rattle.reader.specs.Records.{Record, enter, remove, query, readCanonical}
 use Rattle.rules.specs.Standing.{In, standing}
 use Rattle.book.specs.declared.Book.{Book}
 use Rattle.book.specs.declared.Answered.{Answered}
@@ -36,7 +36,7 @@ module _ {b : Book} {m s : List ℕ} {r : Answered} {n : List ℕ} {M : State} (
   both-still u = (no-loss R C (record { grows = u .grows; ext = u .ext }), no-gain R C (record { shrinks = u .shrinks; ext = u .ext }))
 
   -- a call goes one way, by its record
-  one-way : (o : Outcome Record) → readRecord s ≡ o → Moved M o → OneWay o this
+  one-way : (o : Outcome Record) → readCanonical s ≡ o → Moved M o → OneWay o this
   unfolding step
   one-way (got (enter by g) k) e u = no-loss R C (rw e u)
   one-way (got (remove by g) k) e u = no-gain R C (rw e u)
@@ -52,7 +52,7 @@ after {b} {b′} {m} {m′} {M = M} R (then s r n C K) =
       reached = A .reached;
       answers = (fol R C .answer, fol R C .used, A .answers);
       sums = λ k. let x = A .sums k in let y = call-balance R C k in omega arith;
-      oneWay = (one-way R C (readRecord s) refl (moved M (readRecord s)), A .oneWay);
+      oneWay = (one-way R C (readCanonical s) refl (moved M (readCanonical s)), A .oneWay);
     }
 
 -- no mark of either kind stands in a fresh book

@@ -4,11 +4,12 @@ use Prim.Native.Nat.{ℕ}
 use mathlib.Core.Path.{_≡_, refl, ap, subst, _∙_}
 use mathlib.Core.List.{List, [], _∷_}
 use Rattle.sorts.specs.declared.Status.the-variants.{Trusted}
-use Rattle.rows.specs.Written.{Grant, grant, none, property, perm, issue, written, sameBytes, same}
+use Rattle.rows.specs.Written.{Grant, grant, none, property, perm, issue, written, sameBytes, sameWritten}
 use Rattle.rows.specs.Numbering.{place, has, add, number}
 use Rattle.ranges.specs.Bytes.{byteAt, upto, principal, pack, form, head}
 use Rattle.grants.specs.Grants.{readProperty, readPacked, readIssue, readConcl, readConds, readWith, readGrant}
-use Rattle.reader.specs.Records.{readEntry, readLicence, readQuery, readContent, kindWith, readMark, readRecord}
+use Rattle.canon.specs.Canon.{canon}
+use Rattle.reader.specs.Records.{readEntry, readLicence, readQuery, readContent, kindWith, readMark, readRecord, readCanonical}
 use Rattle.book.specs.declared.Book.{Book}
 use Rattle.book.specs.Machine.{State, Verdict, changes, asks, refuses, Entry, start, member, insert, delete, act, step}
 use Rattle.book.specs.Books.{Shows}
@@ -32,7 +33,7 @@ verdicts M [] = []
 verdicts M (s ∷ ss) = step M s .says ∷ verdicts (step M s .next) ss
 
 opened : State → List (List ℕ) → List Verdict
-unfolding byteAt upto principal pack form head readProperty readPacked readIssue readConcl readConds readWith readGrant readEntry readLicence readQuery readContent kindWith readMark readRecord written sameBytes same place has add number member insert delete act step runs verdicts
+unfolding byteAt upto principal pack form head readProperty readPacked readIssue readConcl readConds readWith readGrant readEntry readLicence readQuery readContent kindWith readMark readRecord canon readCanonical written sameBytes sameWritten place has add number member insert delete act step runs verdicts
 opened M ss = verdicts M ss
 
 pub journal-verdicts : verdicts start journal ≡ changes ∷ changes ∷ asks 290 ∷ changes ∷ asks 290 ∷ changes ∷ refuses 7 ∷ []

@@ -15,13 +15,14 @@ use Rattle.sorts.specs.declared.Status.{Status}
 use Rattle.sorts.specs.declared.Status.the-variants.{Trusted, Issued}
 use Rattle.sorts.specs.Numbers.{saidMark, conclusions, allMarks}
 use Rattle.sorts.specs.Flags.{flagOf}
-use Rattle.rows.specs.Written.{Grant, written, sameBytes, same}
+use Rattle.rows.specs.Written.{Grant, written, sameBytes, sameWritten}
 use Rattle.rows.specs.Numbering.{place, has, add, number}
 use Rattle.rows.specs.Form.{condsOf, rowOf}
 use Rattle.rows.proofs.Bytes.{no-true}
 use Rattle.ranges.specs.Bytes.{Outcome, got, byteAt, upto, principal, pack, form, head}
 use Rattle.grants.specs.Grants.{readProperty, readPacked, readIssue, readConcl, readConds, readWith, readGrant}
-use Rattle.reader.specs.Records.{Record, enter, remove, readEntry, readLicence, readQuery, readContent, kindWith, readMark, readRecord}
+use Rattle.canon.specs.Canon.{canon}
+use Rattle.reader.specs.Records.{Record, enter, remove, readEntry, readLicence, readQuery, readContent, kindWith, readMark, readRecord, readCanonical}
 use Rattle.rules.specs.Rules.{resUnder, conclUnder, granted, issueMark, Values}
 use Rattle.rules.specs.Standing.{In, Bits}
 use Rattle.rules.proofs.Saturation.{same-marks, zeroes-none}
@@ -62,7 +63,7 @@ unfolding rowOf condsOf granted conclUnder
 gives-good x y z = (refl, refl)
 
 gives-may : (x y z : ℕ) → (granted (rowAt second 2) x y z ≡ 17) × (granted (rowAt journal-end 2) x y z ≡ 17)
-unfolding rowOf condsOf granted conclUnder resUnder place same sameBytes written
+unfolding rowOf condsOf granted conclUnder resUnder place sameWritten sameBytes written
 gives-may x y z = (refl, refl)
 
 -- Which stand.
@@ -92,7 +93,7 @@ one-licence p g s =
     number (suc (suc g)) l e = absurd (omega arith)
 
 one-trusted : (g : ℕ) → StandsAs first Trusted g → g ≡ 0
-unfolding member same sameBytes written
+unfolding member sameWritten sameBytes written
 one-trusted zero s = refl
 one-trusted (suc zero) s = absurd (no-true (s .1))
 one-trusted (suc (suc g)) s = absurd (omega (arith, s .0))
@@ -132,7 +133,7 @@ no-values : (M : State) (g : ℕ) → g < 64 → rowAt M g .prins ≡ 0 → rowA
 no-values M g l e f = record { grant = l; first = rw e (omega arith); second = rw e (omega arith); resource = rw f (omega arith) }
 
 second-stands : Stands second 290
-unfolding rowOf condsOf place member same sameBytes written
+unfolding rowOf condsOf place member sameWritten sameBytes written
 second-stands S c =
     let right : S 17 = subst S (gives-may 0 0 0 .0) (c .trust 2 0 0 0 (no-values second 2 (omega arith) refl refl) (omega arith, refl) (λ i l. absurd (omega arith))) in
     subst S (gives-good 0 0 0 .1) (c .authority 1 0 0 0 0 (no-values second 1 (omega arith) refl refl) (omega arith) (omega arith, refl) right (λ i l. absurd (omega arith)))
@@ -148,7 +149,7 @@ no-licence p g s =
     (member-cases _ (trusted smart) (trusted may ∷ []) (s .1))
 
 end-trusted : (g x y z : ℕ) → StandsAs journal-end Trusted g → EndMarks (granted (rowAt journal-end g) x y z)
-unfolding member same sameBytes written
+unfolding member sameWritten sameBytes written
 end-trusted zero x y z s = inr (gives-smart x y z .1)
 end-trusted (suc zero) x y z s = absurd (no-true (s .1))
 end-trusted (suc (suc zero)) x y z s = inl (gives-may x y z .1)
@@ -162,7 +163,7 @@ end-closed = record {
 }
 
 end-stands : (n : ℕ) → EndMarks n → Stands journal-end n
-unfolding rowOf condsOf place member same sameBytes written
+unfolding rowOf condsOf place member sameWritten sameBytes written
 end-stands n (inl e) S c =
     subst S (gives-may 0 0 0 .1 ∙ sym e) (c .trust 2 0 0 0 (no-values journal-end 2 (omega arith) refl refl) (omega arith, refl) (λ i l. absurd (omega arith)))
 end-stands n (inr e) S c =
@@ -254,12 +255,12 @@ journal-sums cs b m K e =
 
 -- THE ONE WAY: the second record, LI, loses nothing, and the sixth, WD, gains nothing.
 
-second-is : readRecord (76 ∷ 73 ∷ 0 ∷ 0 ∷ 0 ∷ 0 ∷ 0 ∷ 2 ∷ 2 ∷ []) ≡ got (enter (Issued (record { 0 = 0 })) good) 9
-unfolding byteAt upto principal head readProperty readConcl readConds readWith readGrant readEntry readLicence readContent kindWith readMark readRecord
+second-is : readCanonical (76 ∷ 73 ∷ 0 ∷ 0 ∷ 0 ∷ 0 ∷ 0 ∷ 2 ∷ 2 ∷ []) ≡ got (enter (Issued (record { 0 = 0 })) good) 9
+unfolding byteAt upto principal head readProperty readConcl readConds readWith readGrant readEntry readLicence readContent kindWith readMark readRecord canon readCanonical
 second-is = refl
 
-sixth-is : readRecord (87 ∷ 68 ∷ 0 ∷ 0 ∷ 0 ∷ 0 ∷ 0 ∷ 2 ∷ 2 ∷ []) ≡ got (remove (Issued (record { 0 = 0 })) good) 9
-unfolding byteAt upto principal head readProperty readConcl readConds readWith readGrant readEntry readLicence readContent kindWith readMark readRecord
+sixth-is : readCanonical (87 ∷ 68 ∷ 0 ∷ 0 ∷ 0 ∷ 0 ∷ 0 ∷ 2 ∷ 2 ∷ []) ≡ got (remove (Issued (record { 0 = 0 })) good) 9
+unfolding byteAt upto principal head readProperty readConcl readConds readWith readGrant readEntry readLicence readContent kindWith readMark readRecord canon readCanonical
 sixth-is = refl
 
 pub journal-one-way : (a b c d e f g : Call) (t : Book) (m : List ℕ) → Chain freshBook freshMarks (a ∷ b ∷ c ∷ d ∷ e ∷ f ∷ g ∷ []) t m →
@@ -267,18 +268,18 @@ pub journal-one-way : (a b c d e f g : Call) (t : Book) (m : List ℕ) → Chain
 unfolding records AllOneWay
 journal-one-way a b c d e f g t m K h =
     let W = demand-3 (a ∷ b ∷ c ∷ d ∷ e ∷ f ∷ g ∷ []) t m K .oneWay in
-    let li : readRecord (b .record′) ≡ got (enter (Issued (record { 0 = 0 })) good) 9 = ap (λ (l : List (List ℕ)). readRecord (getD l 1 [])) h ∙ second-is in
-    let wd : readRecord (f .record′) ≡ got (remove (Issued (record { 0 = 0 })) good) 9 = ap (λ (l : List (List ℕ)). readRecord (getD l 5 [])) h ∙ sixth-is in
+    let li : readCanonical (b .record′) ≡ got (enter (Issued (record { 0 = 0 })) good) 9 = ap (λ (l : List (List ℕ)). readCanonical (getD l 1 [])) h ∙ second-is in
+    let wd : readCanonical (f .record′) ≡ got (remove (Issued (record { 0 = 0 })) good) 9 = ap (λ (l : List (List ℕ)). readCanonical (getD l 5 [])) h ∙ sixth-is in
     (subst (λ (o : Outcome Record). OneWay o b) li (W .1 .0), subst (λ (o : Outcome Record). OneWay o f) wd (W .1 .1 .1 .1 .1 .0))
 
 -- THE ANSWERS: Good(2) is not permitted at the third record, and permitted at the fifth.
 
 third-asks : step (runs start (take 2 journal)) (getD journal 2 []) ≡ record { next = first; says = asks 290; used = 5 }
-unfolding byteAt upto principal pack form head readProperty readPacked readIssue readConcl readConds readWith readGrant readEntry readLicence readQuery readContent kindWith readMark readRecord written sameBytes same place has add number member insert delete act step runs
+unfolding byteAt upto principal pack form head readProperty readPacked readIssue readConcl readConds readWith readGrant readEntry readLicence readQuery readContent kindWith readMark readRecord canon readCanonical written sameBytes sameWritten place has add number member insert delete act step runs
 third-asks = refl
 
 fifth-asks : step (runs start (take 4 journal)) (getD journal 4 []) ≡ record { next = second; says = asks 290; used = 5 }
-unfolding byteAt upto principal pack form head readProperty readPacked readIssue readConcl readConds readWith readGrant readEntry readLicence readQuery readContent kindWith readMark readRecord written sameBytes same place has add number member insert delete act step runs
+unfolding byteAt upto principal pack form head readProperty readPacked readIssue readConcl readConds readWith readGrant readEntry readLicence readQuery readContent kindWith readMark readRecord canon readCanonical written sameBytes sameWritten place has add number member insert delete act step runs
 fifth-asks = refl
 
 pub journal-answers : {a b c d e f g : Call} {t : Book} {m : List ℕ} → Chain freshBook freshMarks (a ∷ b ∷ c ∷ d ∷ e ∷ f ∷ g ∷ []) t m →

@@ -5,12 +5,12 @@ use mathlib.Core.Bool.{Bool, true, false, cond}
 use mathlib.Core.List.{List, [], _∷_, _++_}
 use native.Mathlib.Omega.{arith}
 use lib.ListN.{length}
-use Rattle.rows.specs.Written.{Grant, same}
+use Rattle.rows.specs.Written.{Grant, sameWritten}
 use Rattle.rows.specs.Numbering.{place, has}
 use Rattle.rows.specs.Form.{rowsOut}
 use Rattle.rows.proofs.Place.{has-lt}
 use Rattle.ranges.specs.Bytes.{Outcome, got, refused}
-use Rattle.reader.specs.Records.{Record, enter, remove, query, readRecord}
+use Rattle.reader.specs.Records.{Record, enter, remove, query, readCanonical}
 use Rattle.rows.proofs.Appended.{Ext, ext-refl, ext-trans}
 use Rattle.book.specs.declared.Book.{Book}
 use Rattle.book.specs.Machine.{State, start, acted, step}
@@ -21,7 +21,7 @@ use Rattle.demands.proofs.Demand3.{after}
 
 step-grows : (M : State) (s : List ℕ) → Ext (M .N) (step M s .next .N)
 unfolding step
-step-grows M s = go (readRecord s) (moved M (readRecord s))
+step-grows M s = go (readCanonical s) (moved M (readCanonical s))
   where
     go : (o : Outcome Record) → Moved M o → Ext (M .N) (acted M o .next .N)
     go (got (enter by g) n) u = u .ext
@@ -38,7 +38,7 @@ grows (s ∷ ss) M = ext-trans (step-grows M s) (grows ss (step M s .next))
 place-grows : (g : Grant) (N more : List Grant) → place g N < length N → place g (N ++ more) ≡ place g N
 unfolding place
 place-grows g [] more l = absurd (omega arith)
-place-grows g (h ∷ N) more l = go (same g h) (place-grows g N more) l
+place-grows g (h ∷ N) more l = go (sameWritten g h) (place-grows g N more) l
   where
     go : (t : Bool) → (place g N < length N → place g (N ++ more) ≡ place g N) → cond t 0 (suc (place g N)) < suc (length N) →
         cond t 0 (suc (place g (N ++ more))) ≡ cond t 0 (suc (place g N))

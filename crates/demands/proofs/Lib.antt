@@ -1,4 +1,5 @@
 pub mod Again
+pub mod Alike
 pub mod Balance
 pub mod ClosedBook
 pub mod Demand1

@@ -13,7 +13,7 @@ use Rattle.sorts.specs.Flags.{allFlags, flagPlace}
 use Rattle.rows.specs.Form.{rowsOut}
 use Rattle.rows.proofs.Shown.{blank-shown, shown-form}
 use Rattle.rows.proofs.Bytes.{no-true}
-use Rattle.reader.specs.Records.{readRecord}
+use Rattle.reader.specs.Records.{readCanonical}
 use Rattle.rules.specs.Rules.{Closed}
 use Rattle.rules.specs.Standing.{In, Above, standing}
 use Rattle.rules.proofs.Standing.{standing-in, standing-length, standing-bits}
@@ -53,6 +53,7 @@ fresh-form = record {
   flags = length-replicate {A = ℕ} allFlags 0;
   flagBits = zeroes-bits allFlags;
   table = shown-form blank-shown;
+  canonical = λ i l. absurd (omega arith);
   unflagged = λ i l. fresh-flag i;
 }
 
@@ -111,7 +112,7 @@ module _ {b : Book} {m s : List ℕ} {r : Answered} {n : List ℕ} {M : State} (
   unfolding marksAfter step
   stands-after changes e h = h
   stands-after (asks c) e h =
-      let q = asks-still M (readRecord s) c e in
+      let q = asks-still M (readCanonical s) c e in
       h ∙ R .stands ∙ still-stands (R .form) (R .shows) (fol .form) (fol .shows) (q .ext) (q .grows) (q .shrinks)
   stands-after (refuses k) e h = h ∙ R .stands ∙ ap (λ (x : Book). standing (x .table .rows) (x .flags)) (sym (fol .kept k e))
 

@@ -9,7 +9,7 @@ use lib.IntN.{pos, _-ℤ_}
 use lib.ListN.{getD}
 use Rattle.rows.specs.Numbering.{number, numberConcl}
 use Rattle.ranges.specs.Bytes.{Outcome, got, refused}
-use Rattle.reader.specs.Records.{Record, enter, remove, query, readRecord}
+use Rattle.reader.specs.Records.{Record, enter, remove, query, readCanonical}
 use Rattle.reader.specs.Requests.{fits}
 use Rattle.book.specs.declared.Book.{Book}
 use Rattle.book.specs.declared.Answer.{Answer}
@@ -56,7 +56,7 @@ OneWay (refused k) c = NoLoss c × NoGain c
 
 unfoldable pub AllOneWay : List Call → Type 0
 AllOneWay [] = Unit {0}
-AllOneWay (c ∷ cs) = OneWay (readRecord (c .record′)) c × AllOneWay cs
+AllOneWay (c ∷ cs) = OneWay (readCanonical (c .record′)) c × AllOneWay cs
 
 -- DEMAND 3, of a list of calls that ended in the book b with marks m, M the state of the machine that was fed their records:
 -- "A statement .. has mark 1 exactly when it is in every set closed under the three rules with T as the trusted grants, L as
@@ -82,7 +82,7 @@ Turned M (got (query c) n) k = (fits (numberConcl c (M .N)) ≡ false) × (k ≡
 
 -- A call on a book in form that shows M: each answer under its condition and no other.
 pub record Answers (M : State) (b : Book) (m s : List ℕ) (r : Answered) (n : List ℕ) : Type 0 where
-  pub refusals : (k : ℕ) → (worth (r .answer) .number ≡ some k) ↔ Turned M (readRecord s) k
+  pub refusals : (k : ℕ) → (worth (r .answer) .number ≡ some k) ↔ Turned M (readCanonical s) k
   pub permitted : (r .answer ≡ Permitted) ↔ ((c : ℕ) × (step M s .says ≡ asks c) × (getD m c 0 ≡ 1))
   pub notPermitted : (r .answer ≡ NotPermitted) ↔ ((c : ℕ) × (step M s .says ≡ asks c) × (getD m c 0 ≡ 1 → ⊥))
   pub changed : (x : Counts) → (r .answer ≡ Changed x) ↔ ((step M s .says ≡ changes) × (x ≡ countsOf m n))

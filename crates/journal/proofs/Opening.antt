@@ -6,7 +6,7 @@ use mathlib.Core.List.{List}
 use native.Mathlib.Omega.{arith}
 use Rattle.reader.specs.declared.records.Kind.{Kind}
 use Rattle.ranges.specs.Bytes.{Outcome, got, refused}
-use Rattle.reader.specs.Records.{Record, readMark, readRecord}
+use Rattle.reader.specs.Records.{Record, readMark, readRecord, readCanonical}
 use Rattle.book.specs.declared.Book.{Book}
 use Rattle.book.specs.declared.Answered.{Answered}
 use Rattle.book.specs.declared.Answer.{Answer}
@@ -21,8 +21,8 @@ refusal-opened : (s : List ℕ) (a : Answer) (k : ℕ) → a ≡ Refused k → O
 refusal-opened s a k e = subst (Opened s) (sym e) tt
 
 -- a kind that is not read is refused
-unread : (s : List ℕ) (j : ℕ) → readMark s ≡ refused j → readRecord s ≡ refused j
-unfolding readRecord
+unread : (s : List ℕ) (j : ℕ) → readMark s ≡ refused j → readCanonical s ≡ refused j
+unfolding readRecord readCanonical
 unread s j e = rw e
 
 says-refused : (M : State) (s m n : List ℕ) (j : ℕ) → readMark s ≡ refused j → answerOf (step M s .says) m n ≡ Refused j

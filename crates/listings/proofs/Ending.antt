@@ -10,12 +10,13 @@ use lib.Seq.{length-take-le}
 use lib.Dec.{eqb}
 use Rattle.rows.specs.Numbering.{number, numberConcl}
 use Rattle.ranges.specs.Bytes.{Outcome, got, refused}
-use Rattle.reader.specs.Records.{Record, enter, remove, query, readRecord}
+use Rattle.reader.specs.Records.{Record, enter, remove, query, readRecord, readCanonical}
 use Rattle.reader.specs.Requests.{fits}
 use Rattle.reader.specs.Records.{lettersOf}
 use Rattle.exact.specs.Writing.{kindOf, contentOf, writtenRecord}
 use Rattle.exact.proofs.Letters.{two-letters}
 use Rattle.exact.proofs.Exact.{record-exact}
+use Rattle.exact.proofs.CanonicalRecords.{canonical-got, canonical-refused}
 use Rattle.exact.proofs.Faults.{fault-range}
 use Rattle.book.specs.declared.Book.{Book}
 use Rattle.book.specs.declared.Answer.the-variants.{Permitted, NotPermitted}
@@ -61,15 +62,16 @@ act-used M (enter by g) n = pick (fits (number g (M .N))) n _ _ (refl, λ x. x) 
 act-used M (remove by g) n = pick (stands M by g) n _ _ (refl, λ x. x) (refl, late 7 (omega arith))
 act-used M (query c) n = pick (fits (numberConcl c (M .N))) n _ _ (refl, λ x. x) (refl, late 6 (omega arith))
 
-acted-ends : (M : State) (s : List ℕ) (o : Outcome Record) → readRecord s ≡ o → (acted M o .used ≡ 0) ↔ Ending (acted M o .says)
+acted-ends : (M : State) (s : List ℕ) (o : Outcome Record) → readCanonical s ≡ o → (acted M o .used ≡ 0) ↔ Ending (acted M o .says)
 acted-ends M s (got r n) e =
     let a = act-used M r n in
-    (λ u. absurd (omega (arith, u, a .0, record-long s r n e)), λ x. absurd (a .1 x))
-acted-ends M s (refused k) e = (λ u. fault-range s k e, λ x. refl)
+    let w = canonical-got s r n e in
+    (λ u. absurd (omega (arith, u, a .0, record-long s (w .0) n (w .1))), λ x. absurd (a .1 x))
+acted-ends M s (refused k) e = (λ u. fault-range s k (canonical-refused s k e), λ x. refl)
 
 step-ends : (M : State) (s : List ℕ) → (step M s .used ≡ 0) ↔ Ending (step M s .says)
 unfolding step
-step-ends M s = acted-ends M s (readRecord s) refl
+step-ends M s = acted-ends M s (readCanonical s) refl
 
 query-ends : (t : Bool) → Ends (cond t Permitted NotPermitted) → ⊥
 query-ends true x = x

@@ -1,6 +1,6 @@
 -- The query for a right over a pack: it is read back, the machine asks for its number, and nothing changes by it.
 use Prim.Native.Nat.{ℕ, _<_}
-use mathlib.Core.Path.{_≡_, sym, ap, _∙_}
+use mathlib.Core.Path.{_≡_, refl, sym, ap, _∙_}
 use mathlib.Core.Bool.{true}
 use mathlib.Core.List.{List, [], append-nil}
 use mathlib.Core.Logic.{_↔_, inl}
@@ -11,11 +11,13 @@ use Rattle.sorts.specs.Numbers.{numberOf, speakers, principals, packs, grants}
 use Rattle.rows.specs.Numbering.{numberConcl}
 use Rattle.rows.specs.Form.{depth}
 use Rattle.rows.specs.Allowed.{AllowedConcl}
-use Rattle.ranges.specs.Bytes.{got}
-use Rattle.reader.specs.Records.{query, readRecord}
+use Rattle.ranges.specs.Bytes.{Outcome, got}
+use Rattle.canon.specs.Canon.{canon}
+use Rattle.reader.specs.Records.{Record, query, readRecord, canonRecord, readCanonical}
 use Rattle.reader.specs.Requests.{fits}
 use Rattle.exact.specs.Writing.{AllowedRecord}
 use Rattle.exact.proofs.Exact.{record-read}
+use Rattle.exact.proofs.CanonicalRecords.{canonical-of}
 use Rattle.book.specs.declared.Book.{Book}
 use Rattle.book.specs.declared.Answer.the-variants.{Permitted}
 use Rattle.book.specs.declared.Answered.{Answered}
@@ -44,8 +46,17 @@ module _ (p : ℕ) (x : PackRight) (n : ℕ) where
     allowed Run = ((inl known, inl k), omega arith)
     allowed Export = ((inl known, inl k), omega arith)
 
-    read-back : readRecord (queryFor p x n) ≡ got (query (asked p x n)) (length (queryFor p x n))
-    read-back = ap readRecord (sym (append-nil (queryFor p x n))) ∙ record-read (query (asked p x n)) [] (allowed x)
+    written-back : readRecord (queryFor p x n) ≡ got (query (asked p x n)) (length (queryFor p x n))
+    written-back = ap readRecord (sym (append-nil (queryFor p x n))) ∙ record-read (query (asked p x n)) [] (allowed x)
+
+    -- it holds no grant, and so it is in canonical form
+    read-back : readCanonical (queryFor p x n) ≡ got (query (asked p x n)) (length (queryFor p x n))
+    unfolding canon
+    read-back = canonical-of (queryFor p x n) (query (asked p x n)) (length (queryFor p x n)) written-back ∙ own x
+      where
+        own : (y : PackRight) → _≡_ {A = Outcome Record} (got (canonRecord (query (asked p y n))) (length (queryFor p x n))) (got (query (asked p y n)) (length (queryFor p x n)))
+        own Run = refl
+        own Export = refl
 
     -- the machine asks for the number, and stays as it is
     pub step-asks : (M : State) → fits (M .N) ≡ true → step M (queryFor p x n) ≡ record { next = M; says = asks (numberOf (conclusionOf p x n)); used = length (queryFor p x n) }

@@ -54,7 +54,7 @@ answered spent = record { accepted = all-accepted examples tt; answers = refl }
 
 pub order-tells : OrderTells
 unfolding listed fed figures told
-order-tells = record { oneList = refl; oneListTurned = refl; oneListWritten = refl; ownList = refl; ownListTurned = refl; ownListWritten = refl }
+order-tells = record { oneList = refl; oneListTurned = refl; ownList = refl; ownListTurned = refl; written = refl }
 
 -- Document 000's example 3.4: Smart(Bob) is not implied.
 pub circle-answered : (spent : Bool) → Answered (λ M. implied M spent) (circle ∷ [])

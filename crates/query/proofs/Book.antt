@@ -10,10 +10,10 @@ use Rattle.sorts.proofs.Marks.{number-lt}
 use Rattle.rows.specs.Numbering.{number, numberConcl}
 use Rattle.rows.specs.Form.{conclOf}
 use Rattle.ranges.specs.Bytes.{Outcome, got, refused}
-use Rattle.reader.specs.Records.{Record, enter, remove, query, readRecord}
+use Rattle.reader.specs.Records.{Record, enter, remove, query, readCanonical}
 use Rattle.reader.specs.Requests.{fits}
 use Rattle.exact.specs.Writing.{AllowedRecord}
-use Rattle.exact.proofs.Exact.{record-exact}
+use Rattle.exact.proofs.CanonicalRecords.{canonical-exact}
 use Rattle.book.specs.declared.Book.{Book}
 use Rattle.book.specs.declared.Answer.the-variants.{Permitted, NotPermitted}
 use Rattle.book.specs.declared.Answered.{Answered}
@@ -49,10 +49,10 @@ module _ (M : State) (c : ℕ) where
 
   asks-small : (s : List ℕ) → step M s .says ≡ asks c → c < conclusions
   unfolding step
-  asks-small s e = go (readRecord s) refl e
+  asks-small s e = go (readCanonical s) refl e
     where
-      go : (o : Outcome Record) → readRecord s ≡ o → acted M o .says ≡ asks c → c < conclusions
-      go (got q n) f e′ = asked-small q n (record-exact s q n f .2) e′
+      go : (o : Outcome Record) → readCanonical s ≡ o → acted M o .says ≡ asks c → c < conclusions
+      go (got q n) f e′ = asked-small q n (canonical-exact s q n f .0) e′
       go (refused k) f e′ = let z : _≡_ {A = ℕ} 0 1 = cc in absurd (omega arith)
 
 -- After every list of records the corrected query answers as the closed sets say.

@@ -96,15 +96,14 @@ pub record Fault : Type 1 where
   pub deniedTurned : impliedTold handedOn partsTurned (machineOf P9) (trusted2 P9) ≡ false
   pub stands : Stands (machineOf P9) (trusted2 P9)
 
--- With one list the order of a condition's parts changes the answer; with a list for each branch it does not. So too where the
--- grant itself is written with its conditions in the other order.
+-- With one list the order of a condition's parts changes the answer; with a list for each branch it does not. The grant itself
+-- written with its conditions in the other order is the same grant (document 02, 3), and the machine is the same.
 pub record OrderTells : Type 0 where
   pub oneList : impliedTold handedOn asWritten (machineOf two-ways) (trusted2 two-ways) ≡ true
   pub oneListTurned : impliedTold handedOn partsTurned (machineOf two-ways) (trusted2 two-ways) ≡ false
-  pub oneListWritten : impliedTold handedOn asWritten (machineOf two-ways-turned) (trusted2 two-ways-turned) ≡ false
   pub ownList : impliedTold handedBack asWritten (machineOf two-ways) (trusted2 two-ways) ≡ true
   pub ownListTurned : impliedTold handedBack partsTurned (machineOf two-ways) (trusted2 two-ways) ≡ true
-  pub ownListWritten : impliedTold handedBack asWritten (machineOf two-ways-turned) (trusted2 two-ways-turned) ≡ true
+  pub written : machineOf two-ways-turned ≡ machineOf two-ways
 
 -- In the circle of example 3.4 Smart(Bob), and "Alice said Smart(Bob)":
 abbrev pub smart1 : Example → ℕ

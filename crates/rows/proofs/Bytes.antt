@@ -6,7 +6,7 @@ use mathlib.Core.Path.{_≡_, refl, sym, _∙_}
 use native.Mathlib.Omega.{arith}
 use lib.Dec.{eqb}
 use borrow.Author.Tests.{eqb-true, eq-eqb}
-use Rattle.rows.specs.Written.{Grant, Conds, Concl, Right, grant, none, also, property, perm, issue, issueAny, run, export, howMany, kindOf, written, writtenConds, writtenConcl, writtenRight, sameBytes, same}
+use Rattle.rows.specs.Written.{Grant, Conds, Concl, Right, grant, none, also, property, perm, issue, issueAny, run, export, howMany, kindOf, written, writtenConds, writtenConcl, writtenRight, sameBytes, sameWritten}
 
 hd : {a b : ℕ} {x y : List ℕ} → a ∷ x ≡ b ∷ y → a ≡ b
 hd e = cc
@@ -98,10 +98,10 @@ bytes-refl [] = refl
 bytes-refl (a ∷ x) = rw (eq-eqb a a refl) (bytes-refl x)
 
 -- Sameness is equality.
-pub same-eq : (g h : Grant) → same g h ≡ true → g ≡ h
-unfolding same
+pub same-eq : (g h : Grant) → sameWritten g h ≡ true → g ≡ h
+unfolding sameWritten
 same-eq g h e = written-injective g h (bytes-eq (written g) (written h) e)
 
-pub same-refl : (g : Grant) → same g g ≡ true
-unfolding same
+pub same-refl : (g : Grant) → sameWritten g g ≡ true
+unfolding sameWritten
 same-refl g = bytes-refl (written g)

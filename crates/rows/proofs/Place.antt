@@ -7,7 +7,7 @@ use native.Mathlib.Omega.{arith}
 use native.Mathlib.Nat.{le-of-suc-le-suc, not-suc-le-zero}
 use lib.ListN.{length, getD}
 use borrow.Author.Tests.{ltb-true, lt-ltb}
-use Rattle.rows.specs.Written.{Grant, same}
+use Rattle.rows.specs.Written.{Grant, sameWritten}
 use Rattle.rows.specs.Numbering.{place, has}
 use Rattle.rows.specs.Form.{noGrant}
 use Rattle.rows.proofs.Bytes.{same-eq, same-refl}
@@ -20,9 +20,9 @@ Distinct N = (i j : ℕ) → i < length N → j < length N → getD N i noGrant 
 pub place-at : (g : Grant) (N : List Grant) → place g N < length N → getD N (place g N) noGrant ≡ g
 unfolding place
 place-at g [] h = absurd (not-suc-le-zero h)
-place-at g (k ∷ N) h = go (same g k) refl h (place-at g N)
+place-at g (k ∷ N) h = go (sameWritten g k) refl h (place-at g N)
   where
-    go : (b : Bool) → same g k ≡ b → cond b 0 (suc (place g N)) < suc (length N) → (place g N < length N → getD N (place g N) noGrant ≡ g) → getD (k ∷ N) (cond (same g k) 0 (suc (place g N))) noGrant ≡ g
+    go : (b : Bool) → sameWritten g k ≡ b → cond b 0 (suc (place g N)) < suc (length N) → (place g N < length N → getD N (place g N) noGrant ≡ g) → getD (k ∷ N) (cond (sameWritten g k) 0 (suc (place g N))) noGrant ≡ g
     go true e l r = rw e (sym (same-eq g k e))
     go false e l r = rw e (r (le-of-suc-le-suc l))
 
@@ -30,10 +30,10 @@ place-at g (k ∷ N) h = go (same g k) refl h (place-at g N)
 pub place-lt : (g : Grant) (N : List Grant) (i : ℕ) → i < length N → getD N i noGrant ≡ g → place g N < length N
 unfolding place
 place-lt g [] i h e = absurd (not-suc-le-zero h)
-place-lt g (k ∷ N) zero h e = rw (ap (same g) e ∙ same-refl g) (omega arith)
-place-lt g (k ∷ N) (suc i) h e = go (same g k) refl (place-lt g N i (le-of-suc-le-suc h) e)
+place-lt g (k ∷ N) zero h e = rw (ap (sameWritten g) e ∙ same-refl g) (omega arith)
+place-lt g (k ∷ N) (suc i) h e = go (sameWritten g k) refl (place-lt g N i (le-of-suc-le-suc h) e)
   where
-    go : (b : Bool) → same g k ≡ b → place g N < length N → cond (same g k) 0 (suc (place g N)) < suc (length N)
+    go : (b : Bool) → sameWritten g k ≡ b → place g N < length N → cond (sameWritten g k) 0 (suc (place g N)) < suc (length N)
     go true q l = rw q (omega arith)
     go false q l = rw q (omega arith)
 

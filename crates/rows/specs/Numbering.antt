@@ -5,12 +5,13 @@ use mathlib.Core.Bool.{Bool, cond}
 use mathlib.Core.List.{List, [], _∷_, _++_}
 use lib.ListN.{length}
 use lib.Dec.{ltb}
-use Rattle.rows.specs.Written.{Grant, Conds, Concl, Right, grant, none, also, property, perm, issue, issueAny, run, export, same}
+use Rattle.rows.specs.Written.{Grant, Conds, Concl, Right, grant, none, also, property, perm, issue, issueAny, run, export, sameWritten}
 
--- a grant's place in N, from 0; N's length where it is not there
+-- A grant's place in N, from 0; N's length where it is not there. What is looked up and what is numbered is in canonical form
+-- (document 02, 3), and such grants are the same when their bytes are.
 unfoldable pub place : Grant → List Grant → ℕ
 place g [] = 0
-place g (h ∷ N) = cond (same g h) 0 (suc (place g N))
+place g (h ∷ N) = cond (sameWritten g h) 0 (suc (place g N))
 
 unfoldable pub has : Grant → List Grant → Bool
 has g N = ltb (place g N) (length N)

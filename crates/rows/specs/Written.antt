@@ -64,6 +64,6 @@ sameBytes [] (b ∷ ys) = false
 sameBytes (a ∷ xs) [] = false
 sameBytes (a ∷ xs) (b ∷ ys) = eqb a b && sameBytes xs ys
 
--- "Two grants are the same when their bytes are the same."
-unfoldable pub same : Grant → Grant → Bool
-same g h = sameBytes (written g) (written h)
+-- Whether two grants are written with the same bytes. Of grants in canonical form this is document 02's sameness.
+unfoldable pub sameWritten : Grant → Grant → Bool
+sameWritten g h = sameBytes (written g) (written h)

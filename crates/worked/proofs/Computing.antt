@@ -1,25 +1,26 @@
 -- What the examples compute with: to unfold one of these is to unfold all that its line names.
-use Rattle.rows.specs.Written.{written, writtenConds, writtenConcl, writtenRight, sameBytes, same}
+use Rattle.rows.specs.Written.{written, writtenConds, writtenConcl, writtenRight, sameBytes, sameWritten}
 use Rattle.rows.specs.Numbering.{place, has, add, number, numberConds, numberConcl, numberRight}
 use Rattle.rows.specs.Form.{condsOf, rowOf}
 use Rattle.ranges.specs.Bytes.{byteAt, upto, principal, pack, form, head}
 use Rattle.grants.specs.Grants.{readProperty, readPacked, readIssue, readConcl, readConds, readWith, readGrant}
-use Rattle.reader.specs.Records.{readEntry, readLicence, readQuery, readContent, kindWith, readMark, readRecord}
+use Rattle.canon.specs.Canon.{order, condBytes, orderCond, canon, insert as put}
+use Rattle.reader.specs.Records.{readEntry, readLicence, readQuery, readContent, kindWith, readMark, readRecord, readCanonical}
 use Rattle.exact.specs.Writing.{writtenRecord}
 use Rattle.rules.specs.Rules.{resUnder, conclUnder, granted, condition}
 use Rattle.rules.specs.Standing.{needsOf, fired, at, atXY, atX, ofRow, ground}
 use Rattle.book.specs.Machine.{member, insert, delete, act, step}
 use Rattle.book.specs.Chains.{runs}
-use Rattle.worked.specs.Worked.{P1, P2, P3, P4, P5, P6, P6-added, P7, P8, P9, P9-withdrawn, P10, table}
+use Rattle.worked.specs.Worked.{P1, P2, P3, P4, P5, P6, P6-added, P7, P8, P9, P9-withdrawn, P10, turned, table}
 
 -- the table
 unfoldable pub listed : Unit {0}
-unfolding P1 P2 P3 P4 P5 P6 P6-added P7 P8 P9 P9-withdrawn P10 table
+unfolding P1 P2 P3 P4 P5 P6 P6-added P7 P8 P9 P9-withdrawn P10 turned table
 listed = tt
 
 -- the plain machine, fed an example's records
 unfoldable pub fed : Unit {0}
-unfolding writtenRecord byteAt upto principal pack form head readProperty readPacked readIssue readConcl readConds readWith readGrant readEntry readLicence readQuery readContent kindWith readMark readRecord written writtenConds writtenConcl writtenRight sameBytes same place has add number numberConds numberConcl numberRight member insert delete act step runs
+unfolding writtenRecord byteAt upto principal pack form head readProperty readPacked readIssue readConcl readConds readWith readGrant readEntry readLicence readQuery readContent kindWith readMark readRecord order condBytes orderCond put canon readCanonical written writtenConds writtenConcl writtenRight sameBytes sameWritten place has add number numberConds numberConcl numberRight member insert delete act step runs
 fed = tt
 
 -- the rows of its grants, and what they grant

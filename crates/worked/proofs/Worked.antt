@@ -161,6 +161,8 @@ certificates =
     ∷ record { now = []; before = 292 ∷ 4898 ∷ 2592 ∷ [] }
     -- P10
     ∷ only (span 800 32)
+    -- conditions in another order
+    ∷ only (292 ∷ 7204 ∷ 306 ∷ 4898 ∷ 2592 ∷ [])
     ∷ []
 
 computed : T (tests table certificates)

@@ -1,5 +1,6 @@
--- Document 01, "Examples to prove and to run": "P1 to P10 form one proved table, stated as a whole over the rules". First what
--- an example is, then what its line of the table says of the plain machine and its closed sets, then the examples and the table.
+-- Document 01, "Examples to prove and to run": "P1 to P10 form one proved table, stated as a whole over the rules"; after them
+-- stand those of document 02's requests. First what an example is, then what its line of the table says of the plain machine and
+-- its closed sets, then the examples and the table.
 use mathlib.Core.Path.{_≡_}
 use mathlib.Core.Logic.{_↔_}
 use mathlib.Core.List.{List, [], _∷_, _++_, map}
@@ -10,6 +11,7 @@ use Rattle.sorts.specs.declared.Status.the-variants.{Trusted, Issued}
 use Rattle.sorts.specs.Numbers.{numberOf, allMarks}
 use Rattle.rows.specs.Written.{Grant, Concl, grant, none, also, property, perm, issue, issueAny, run, export}
 use Rattle.rows.specs.Form.{conclOf}
+use Rattle.canon.specs.Canon.{canonConcl}
 use Rattle.reader.specs.Records.{Record, enter, remove}
 use Rattle.exact.specs.Writing.{writtenRecord}
 use Rattle.book.specs.Machine.{State, changes, start, step}
@@ -84,9 +86,9 @@ abbrev pub Accepted : State → List Record → Type 0
 Accepted M [] = Unit {0}
 Accepted M (e ∷ es) = (step M (writtenRecord e) .says ≡ changes) × Accepted (step M (writtenRecord e) .next) es
 
--- The number of a written conclusion. "Mark c says that conclusion c is true."
+-- The number of a written conclusion. "Mark c says that conclusion c is true." Document 02, 3: "numbers follow that form".
 abbrev pub numberIn : State → Concl → ℕ
-numberIn M c = numberOf (conclOf (M .N) c)
+numberIn M c = numberOf (conclOf (M .N) (canonConcl c))
 
 -- The marks of a state. "So there are 39,168 marks"; "A mark is a byte, 0 or 1"; "A statement .. has mark 1 exactly when it is in
 -- every set closed under the three rules".
@@ -251,6 +253,18 @@ P10 =
       answers = permitted (perm 5 (run 31)) ∷ not-permitted (perm 5 (export 31)) ∷ marks 32 ∷ [];
     }
 
+-- Document 02, 3: "Conditions in another order are the same grant." 0: Smart(2). 1: Good(2). 2: 1 said Good(2) and 0 said Smart(2)
+-- give Trusted(2). T: Perm(2, issue, 0 said Smart(2) and 1 said Good(2) give Trusted(2)). Trusted(2) permitted, and the right in
+-- either order; 5 marks.
+unfoldable pub turned : Example
+turned =
+    let licensed = when2 1 (good 2) 0 (smart 2) (trusted 2) in
+    let allowed = when2 0 (smart 2) 1 (good 2) (trusted 2) in
+    record {
+      entries = licence 0 (plain (smart 2)) ∷ licence 1 (plain (good 2)) ∷ licence 2 licensed ∷ trust (plain (perm 2 (issue allowed))) ∷ [];
+      answers = permitted (trusted 2) ∷ permitted (perm 2 (issue licensed)) ∷ permitted (perm 2 (issue allowed)) ∷ marks 5 ∷ [];
+    }
+
 -- The table.
 unfoldable pub table : List Example
-table = P1 ∷ P2 ∷ P3 ∷ P4 ∷ P5 ∷ P6 ∷ P6-added ∷ P7 ∷ P8 ∷ P9 ∷ P9-withdrawn ∷ P10 ∷ []
+table = P1 ∷ P2 ∷ P3 ∷ P4 ∷ P5 ∷ P6 ∷ P6-added ∷ P7 ∷ P8 ∷ P9 ∷ P9-withdrawn ∷ P10 ∷ turned ∷ []

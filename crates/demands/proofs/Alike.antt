@@ -1,0 +1,123 @@
+-- Document 02, 3, through lists of calls: records whose grants are the same, however they are written, are answered alike and leave
+-- the same book and marks.
+use Prim.Native.Nat.{ℕ}
+use mathlib.Core.Path.{_≡_, refl, sym, ap, ap₂, subst, _∙_}
+use mathlib.Core.Bool.{Bool, true, false, cond}
+use mathlib.Core.List.{List, [], _∷_}
+use mathlib.Core.Logic.{_⊎_, inl, inr}
+use native.Mathlib.Omega.{arith}
+use Rattle.sorts.specs.declared.Status.{Status}
+use Rattle.rows.specs.Written.{Grant, perm, issue}
+use Rattle.rows.specs.Numbering.{place, number, numberConcl}
+use Rattle.ranges.specs.Bytes.{Outcome, got, refused}
+use Rattle.canon.specs.Canon.{canon, same}
+use Rattle.canon.proofs.Sets.{same-canon}
+use Rattle.reader.specs.Records.{Record, enter, remove, query, readRecord, readCanonical, canonRecord}
+use Rattle.reader.specs.Requests.{fits}
+use Rattle.exact.proofs.CanonicalRecords.{canonical-of}
+use Rattle.book.specs.declared.Book.{Book}
+use Rattle.book.specs.declared.Answer.{Answer}
+use Rattle.book.specs.declared.Answered.{Answered}
+use Rattle.book.specs.Machine.{State, Verdict, Step, act, acted, step, stands}
+use Rattle.book.specs.Books.{BookForm, Shows}
+use Rattle.book.specs.Calls.{answerOf, marksAfter, Called}
+use Rattle.book.specs.Chains.{Call, Chain, none, then, records, runs}
+use Rattle.demands.specs.Alike.{asked, Alike, AllAlike, answered}
+use Rattle.demands.proofs.Shown.{shows-some}
+use Rattle.demands.proofs.Unique.{same-book}
+
+-- the premise is met: by grants that are the same, entered, removed, or asked about
+module _ (s t : List ℕ) (g h : Grant) (m n : ℕ) (e : same g h ≡ true) where
+  alike-at : (r : Grant → Record) → canonRecord (r g) ≡ canonRecord (r h) → readRecord s ≡ got (r g) m → readRecord t ≡ got (r h) n → Alike s t
+  alike-at r q a b = ap asked (canonical-of s (r g) m a) ∙ ap (λ (x : Record). got x 0) q ∙ sym (ap asked (canonical-of t (r h) n b))
+
+  pub alike-enter : (by : Status) → readRecord s ≡ got (enter by g) m → readRecord t ≡ got (enter by h) n → Alike s t
+  alike-enter by = alike-at (enter by) (ap (enter by) (same-canon g h e))
+
+  pub alike-remove : (by : Status) → readRecord s ≡ got (remove by g) m → readRecord t ≡ got (remove by h) n → Alike s t
+  alike-remove by = alike-at (remove by) (ap (remove by) (same-canon g h e))
+
+  pub alike-query : (p : ℕ) → readRecord s ≡ got (query (perm p (issue g))) m → readRecord t ≡ got (query (perm p (issue h))) n → Alike s t
+  unfolding canon
+  alike-query p = alike-at (λ x. query (perm p (issue x))) (ap (λ x. query (perm p (issue x))) (same-canon g h e))
+
+-- the same grants have one number: so a right to issue the one is the right to issue the other
+pub same-number : (g h : Grant) (N : List Grant) → same g h ≡ true → place (canon g) N ≡ place (canon h) N
+same-number g h N e = ap (λ (x : Grant). place x N) (same-canon g h e)
+
+-- The plain machine does not see a record's length but in the bytes used.
+
+record SameStep (x y : Step) : Type 0 where
+  next : x .next ≡ y .next
+  says : x .says ≡ y .says
+
+picked : (b : Bool) (x y x′ y′ : Step) → SameStep x x′ → SameStep y y′ → SameStep (cond b x y) (cond b x′ y′)
+picked true x y x′ y′ h k = h
+picked false x y x′ y′ h k = k
+
+itself : {M : State} {v : Verdict} {m n : ℕ} → SameStep (record { next = M; says = v; used = m }) (record { next = M; says = v; used = n })
+itself = record { next = refl; says = refl }
+
+act-same : (M : State) (r : Record) (m n : ℕ) → SameStep (act M r m) (act M r n)
+unfolding act
+act-same M (enter by g) m n = picked (fits (number g (M .N))) _ _ _ _ itself itself
+act-same M (remove by g) m n = picked (stands M by g) _ _ _ _ itself itself
+act-same M (query c) m n = picked (fits (numberConcl c (M .N))) _ _ _ _ itself itself
+
+acted-same : (M : State) (o p : Outcome Record) → asked o ≡ asked p → SameStep (acted M o) (acted M p)
+acted-same M (got r m) (got q n) e = let d : r ≡ q = cc in subst (λ (x : Record). SameStep (act M r m) (act M x n)) d (act-same M r m n)
+acted-same M (got r m) (refused k) e = let z : _≡_ {A = ℕ} 0 1 = cc in absurd (omega arith)
+acted-same M (refused j) (got r n) e = let z : _≡_ {A = ℕ} 0 1 = cc in absurd (omega arith)
+acted-same M (refused j) (refused k) e = let d : j ≡ k = cc in subst (λ (i : ℕ). SameStep (acted M (refused j)) (acted M (refused i))) d itself
+
+step-same : (M : State) (s t : List ℕ) → Alike s t → SameStep (step M s) (step M t)
+unfolding step
+step-same M s t e = acted-same M (readCanonical s) (readCanonical t) e
+
+-- the machine, fed lists of records that are alike
+pub runs-alike : (M : State) (ss ts : List (List ℕ)) → AllAlike ss ts → runs M ss ≡ runs M ts
+unfolding runs
+runs-alike M [] [] h = refl
+runs-alike M [] (t ∷ ts) h = absurd h
+runs-alike M (s ∷ ss) [] h = absurd h
+runs-alike M (s ∷ ss) (t ∷ ts) h = ap (λ (K : State). runs K ss) (step-same M s t (h .0) .next) ∙ runs-alike (step M t .next) ss ts (h .1)
+
+-- Two calls on one book, in form or not: the answers, books and marks are the same.
+pub record SameCall (r r′ : Answered) (n n′ : List ℕ) : Type 0 where
+  pub book : r .book ≡ r′ .book
+  pub answer : r .answer ≡ r′ .answer
+  pub marks : n ≡ n′
+
+module _ (b : Book) (m s t : List ℕ) (e : Alike s t) (r r′ : Answered) (n n′ : List ℕ) (C : Called b m s r n) (D : Called b m t r′ n′) where
+  formed : (M : State) → BookForm b m → Shows b M → SameCall r r′ n n′
+  formed M f sh =
+      let F = C .formed f M sh in
+      let G = D .formed f M sh in
+      let S = step-same M s t e in
+      let book : r .book ≡ r′ .book = same-book (F .form) (G .form) (F .shows) (subst (Shows (r′ .book)) (sym (S .next)) (G .shows)) in
+      let marks : n ≡ n′ = F .marks ∙ ap₂ (λ (v : Verdict) (x : Book). marksAfter v x m) (S .says) book ∙ sym (G .marks) in
+      record { book = book; answer = F .answer ∙ ap₂ (λ (v : Verdict) (l : List ℕ). answerOf v m l) (S .says) marks ∙ sym (G .answer); marks = marks }
+
+  pub alike-call : SameCall r r′ n n′
+  alike-call = by (C .decided)
+    where
+      by : BookForm b m ⊎ (BookForm b m → ⊥) → SameCall r r′ n n′
+      by (inl f) = let w = shows-some b m f in formed (w .0) f (w .1)
+      by (inr d) =
+          let x = C .unformed d in
+          let y = D .unformed d in
+          let z : r ≡ r′ = x .0 ∙ sym (y .0) in
+          record { book = ap (λ (a : Answered). a .book) z; answer = ap (λ (a : Answered). a .answer) z; marks = x .1 ∙ sym (y .1) }
+
+-- Two lists of calls from one book: the same answers, and they end in the same book and marks.
+pub alike-calls : {b b′ b″ : Book} {m m′ m″ : List ℕ} {cs ds : List Call} → Chain b m cs b′ m′ → Chain b m ds b″ m″ → AllAlike (records cs) (records ds) →
+    (b′ ≡ b″) × (m′ ≡ m″) × (answered cs ≡ answered ds)
+unfolding records answered
+alike-calls none none h = (refl, refl, refl)
+alike-calls none (then t r′ n′ D L) h = absurd h
+alike-calls (then s r n C K) none h = absurd h
+alike-calls {b} {b′} {b″} {m} {m′} {m″} (then {cs = cs} s r n C K) (then {cs = ds} t r′ n′ D L) h =
+    let S = alike-call b m s t (h .0) r r′ n n′ C D in
+    let L′ : Chain (r .book) n ds b″ m″ = subst (λ (x : Book). Chain x n ds b″ m″) (sym (S .book)) (subst (λ (l : List ℕ). Chain (r′ .book) l ds b″ m″) (sym (S .marks)) L) in
+    let z = alike-calls K L′ (h .1) in
+    (z .0, z .1, ap₂ (λ (a : Answer) (l : List Answer). a ∷ l) (S .answer) (z .2))
