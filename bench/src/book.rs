@@ -54,6 +54,24 @@ fn write_con(c: &Con, out: &mut Vec<u8>) {
     }
 }
 
+/// The grant that all grants which are the same are kept as: inner grants
+/// first, then conditions in ascending order of bytes, each once.
+fn ordered(g: &Grant) -> Grant {
+    let inner = |c: &Con| match c {
+        Con::Issue(p, g) => Con::Issue(*p, Box::new(ordered(g))),
+        other => other.clone(),
+    };
+    let mut conds: Vec<(Pr, Con)> = g.conds.iter().map(|(q, c)| (*q, inner(c))).collect();
+    let bytes = |(q, c): &(Pr, Con)| {
+        let mut out = vec![*q];
+        write_con(c, &mut out);
+        out
+    };
+    conds.sort_by_key(bytes);
+    conds.dedup();
+    grant(g.prins, g.res, conds, inner(&g.head))
+}
+
 pub fn write_grant(g: &Grant, out: &mut Vec<u8>) {
     out.extend([g.prins, g.res, g.conds.len() as u8]);
     for (q, c) in &g.conds {
@@ -148,6 +166,7 @@ impl Book {
 
     /// The number of a grant, given now if it has none; inner grants first.
     fn number(&mut self, g: &Grant) -> usize {
+        let g = &ordered(g);
         let conds: Vec<(Pr, Atom)> = g.conds.iter().map(|(q, c)| (*q, self.atom(c))).collect();
         let head = self.atom(&g.head);
         let mut bytes = vec![];

@@ -322,6 +322,26 @@ fn once() -> Book {
     b
 }
 
+/// 51 rows of depth 4 whose neighbouring conditions differ in one property
+/// only, three grants deep: the dearest to tell whether they ascend.
+fn nested() -> Book {
+    let mut b = Book::new("nested, 64 rows alike but deep inside");
+    b.trust(&short());
+    let above = |grants: &[Grant]| -> Vec<Grant> {
+        let conds = || grants.iter().map(|g| (0, Issue(0, Box::new(g.clone())))).collect();
+        let heads = grants.iter().map(|g| Issue(0, Box::new(g.clone())));
+        heads.map(|head| grant(0, 0, conds(), head)).collect()
+    };
+    let facts: Vec<Grant> = (0..4).map(|k| fact(Prop(k, 0))).collect();
+    let third = above(&above(&facts));
+    for i in 0..51u8 {
+        let mut g = above(&third)[0].clone();
+        g.head = Prop(i % 16, i / 16);
+        b.issue(i % 16, &g);
+    }
+    b
+}
+
 /// The books of the table, and more chains that wake heavy rows.
 pub fn for_worst() -> Vec<Book> {
     let mut books = all();
@@ -353,6 +373,7 @@ pub fn all() -> Vec<Book> {
         apart(),
         prefixes(),
         deep(),
+        nested(),
         wakes(4, 4, 4, 24, false),
         wakes(16, 16, 15, 15, false),
     ]

@@ -78,6 +78,24 @@ fn key(row: &Row) -> u64 {
     key
 }
 
+impl Row {
+    /// Conditions in another order, or repeated, are the same grant: they are
+    /// kept in one order, each once. Which order does not show.
+    fn order(&mut self) {
+        let n = self.n as usize;
+        self.conds[..n].sort_unstable();
+        let mut kept = 0;
+        for i in 0..n {
+            if i == 0 || self.conds[i] != self.conds[kept - 1] {
+                self.conds[kept] = self.conds[i];
+                kept += 1;
+            }
+        }
+        self.conds[kept..].fill(Atom::default());
+        self.n = kept as u8;
+    }
+}
+
 impl Book {
     pub fn new() -> Book {
         Book {
@@ -118,6 +136,7 @@ impl Book {
             row.conds[i].who = who;
         }
         row.head = self.conclusion(r, d, depth)?;
+        row.order();
         Ok(self.number(&row))
     }
 

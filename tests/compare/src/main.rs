@@ -6,6 +6,7 @@
 mod case;
 mod checks;
 mod circles;
+mod condition_order;
 mod conditions;
 mod document000;
 mod document01;
@@ -63,6 +64,7 @@ fn read_arguments(arguments: &[String]) -> Option<(&str, u64)> {
 fn all_cases(seed: u64) -> Vec<Case> {
     let mut cases = document01::cases();
     cases.extend(document02::cases());
+    cases.extend(condition_order::cases(seed));
     cases.extend(document000::cases());
     cases.extend(conditions::cases());
     cases.extend(circles::cases(seed));

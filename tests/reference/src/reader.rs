@@ -52,13 +52,26 @@ impl Record {
             Record::Query(_) => "QU",
         }
     }
+
+    fn ordered(&self) -> Record {
+        match self {
+            Record::EnterTrusted(grant) => Record::EnterTrusted(grant.ordered()),
+            Record::StrikeTrusted(grant) => Record::StrikeTrusted(grant.ordered()),
+            Record::IssueLicence(issuer, grant) => Record::IssueLicence(*issuer, grant.ordered()),
+            Record::WithdrawLicence(issuer, grant) => {
+                Record::WithdrawLicence(*issuer, grant.ordered())
+            }
+            Record::Query(conclusion) => Record::Query(conclusion.ordered()),
+        }
+    }
 }
 
-/// The first record in the bytes and how many bytes it takes.
+/// The first record in the bytes, its grants ordered, and how many bytes it
+/// takes. Faults, and how many conditions there are, are judged as written.
 pub fn read_record(bytes: &[u8]) -> Result<(Record, usize), Refusal> {
     let mut reader = Reader { bytes, used: 0 };
     let record = reader.record()?;
-    Ok((record, reader.used))
+    Ok((record.ordered(), reader.used))
 }
 
 /// The variables a grant declares; a query declares none.
