@@ -1,5 +1,3 @@
 -- What only the contracts of inner functions cite.
 pub mod Bits
 pub mod Layout
-pub mod Flags
-pub mod Marks
