@@ -9,7 +9,7 @@ use lib.ListN.{length, getD, set, length-set}
 use lib.Seq.{getD-set-same, getD-set-other}
 use Rattle.sorts.specs.declared.Status.{Status}
 use Rattle.sorts.specs.Numbers.{numberOf}
-use Rattle.sorts.specs.Flags.{StatusForm, rowFlags, flagPlace}
+use Rattle.sorts.specs.Flags.{StatusRange, rowFlags, flagPlace}
 use Rattle.sorts.proofs.Flags.{place-in}
 use Rattle.rows.specs.declared.Table.{Table}
 use Rattle.rows.specs.Written.{Grant, Concl}
@@ -109,7 +109,7 @@ module _ (b : Book) (m s : List ℕ) (f : BookForm b m) (r : Reading) (R : Reads
 
     -- to set a flag over a table that shows N′, or to take it away
     module _ (t : Table) (F : TableForm t) (N′ : List Grant) (is : rowsOut (t .rows) (t .count) ≡ N′) (ext : Ext N N′) (all : AllInForm N′)
-        (by : Status) (known : StatusForm by) (g : Grant) (there : has g N′ ≡ true) (v : Bool) (M′ : State) (numbers : M′ .N ≡ N′)
+        (by : Status) (known : StatusRange by) (g : Grant) (there : has g N′ ≡ true) (v : Bool) (M′ : State) (numbers : M′ .N ≡ N′)
         (changed : stands M′ by g ≡ v)
         (others : (by′ : Status) (h : Grant) → (_≡_ {A = Entry} (record { by = by′; what = h }) (record { by = by; what = g }) → ⊥) → stands M′ by′ h ≡ stands M by′ h) where
       len′ : t .count ≡ length N′
@@ -147,7 +147,7 @@ module _ (b : Book) (m s : List ℕ) (f : BookForm b m) (r : Reading) (R : Reads
     abbrev entered : Status → Grant → State
     entered by g = record { entries = insert (entry by g) E; N = number g N }
 
-    module _ (by : Status) (known : StatusForm by) (g : Grant) (own : Canonical g) (n : ℕ) (rows′ : fits (number g N) ≡ true → rowsOut (r .table .rows) (r .table .count) ≡ number g N) where
+    module _ (by : Status) (known : StatusRange by) (g : Grant) (own : Canonical g) (n : ℕ) (rows′ : fits (number g N) ≡ true → rowsOut (r .table .rows) (r .table .count) ≡ number g N) where
       enter-steps : (c : Bool) → fits (number g N) ≡ c → Steps (cond c (record { next = entered by g; says = changes; used = n }) (refuse M 6 n)) b m
           (appliedTo b m (r .table) (cond c (found.Asks (Enter by (record { 0 = place g (number g N) })) n) (found.Full n)))
           (marksAppliedTo b m (r .table) (cond c (found.Asks (Enter by (record { 0 = place g (number g N) })) n) (found.Full n)))
@@ -161,7 +161,7 @@ module _ (b : Book) (m s : List ℕ) (f : BookForm b m) (r : Reading) (R : Reads
     abbrev removed : Status → Grant → State
     removed by g = record { entries = delete (entry by g) E; N = N }
 
-    module _ (by : Status) (known : StatusForm by) (g : Grant) (n : ℕ) where
+    module _ (by : Status) (known : StatusRange by) (g : Grant) (n : ℕ) where
       -- the flag of a grant with a number says whether it stands so
       flag-is : has g N ≡ true → getD (b .flags) (flagPlace by (place g N)) 0 ≡ bit (stands M by g)
       flag-is e = let l = has-lt g N e in sh .flags by (place g N) known l ∙ ap (λ (h : Grant). bit (stands M by h)) (place-at g N l)

@@ -13,7 +13,7 @@ use Rattle.sorts.specs.declared.Res as r
 use Rattle.sorts.specs.declared.Concl as rc
 use Rattle.sorts.specs.declared.Cond.{Cond}
 use Rattle.sorts.specs.declared.Status.{Status}
-use Rattle.sorts.specs.Flags.{StatusForm}
+use Rattle.sorts.specs.Flags.{StatusRange}
 use Rattle.sorts.proofs.Flags.{place-fits}
 use Rattle.sorts.specs.Blank.{blankCond, blankRow, noRow}
 use Rattle.sorts.specs.Numbers.{ClosedConcl, conditions, grants, principals, packs}
@@ -101,13 +101,13 @@ concl-closed (perm p (run n)) N a e = (prin-closed p (a .0), pack-closed n (a .1
 concl-closed (perm p (export n)) N a e = (prin-closed p (a .0), pack-closed n (a .1))
 
 module _ (N : List Grant) (small : length N ≤ grants) where
-  entering-fits : (by : Status) → StatusForm by → (g : Grant) (n : ℕ) (b : Bool) → fits (number g N) ≡ b →
+  entering-fits : (by : Status) → StatusRange by → (g : Grant) (n : ℕ) (b : Bool) → fits (number g N) ≡ b →
       FoundFits (cond b (found.Asks (Enter by (record { 0 = place g (number g N) })) n) (found.Full n))
   entering-fits by k g n true e =
       place-fits by (place g (number g N)) k (let l = has-lt g (number g N) (number-has g N) in let s = fits-small (number g N) e in omega arith)
   entering-fits by k g n false e = tt
 
-  removing-fits : (by : Status) → StatusForm by → (g : Grant) (n : ℕ) (b : Bool) → has g N ≡ b →
+  removing-fits : (by : Status) → StatusRange by → (g : Grant) (n : ℕ) (b : Bool) → has g N ≡ b →
       FoundFits (cond b (found.Asks (Remove by (record { 0 = place g N })) n) (found.Unknown n))
   removing-fits by k g n true e = place-fits by (place g N) k (let l = has-lt g N e in omega arith)
   removing-fits by k g n false e = tt

@@ -9,7 +9,7 @@ use lib.ListN.{length, getD, set, List·getD-append}
 use lib.Seq.{getD-set-same, getD-set-other}
 use Rattle.sorts.specs.declared.Status.{Status}
 use Rattle.sorts.specs.Numbers.{grants}
-use Rattle.sorts.specs.Flags.{StatusForm, rowFlags, allFlags, flagPlace}
+use Rattle.sorts.specs.Flags.{StatusRange, rowFlags, allFlags, flagPlace}
 use Rattle.sorts.proofs.Flags.{place-fits, place-from, place-row, place-by}
 use Rattle.rows.specs.declared.Table.{Table}
 use Rattle.rows.specs.Written.{Grant}
@@ -49,7 +49,7 @@ module _ {b : Book} {M : State} (u : Shows b M) (count : b .table .count ≡ len
       absurd (omega arith)
 
   -- the flags as they are show how every grant of N′ stands
-  pub old-flags : (by : Status) (j : ℕ) → StatusForm by → j < length N′ → getD (b .flags) (flagPlace by j) 0 ≡ bit (stands M by (getD N′ j noGrant))
+  pub old-flags : (by : Status) (j : ℕ) → StatusRange by → j < length N′ → getD (b .flags) (flagPlace by j) 0 ≡ bit (stands M by (getD N′ j noGrant))
   old-flags by j k l = go (decLt j (length (M .N)))
     where
       go : Dec (j < length (M .N)) → getD (b .flags) (flagPlace by j) 0 ≡ bit (stands M by (getD N′ j noGrant))
@@ -68,7 +68,7 @@ module _ {b : Book} {M : State} (u : Shows b M) (count : b .table .count ≡ len
   }
 
   -- An entry or a removal: grant g of N′ stands so, or no longer, and nothing else changes.
-  module _ (by : Status) (known : StatusForm by) (g : Grant) (there : has g N′ ≡ true) (v : Bool) (M′ : State) (numbers : M′ .N ≡ N′)
+  module _ (by : Status) (known : StatusRange by) (g : Grant) (there : has g N′ ≡ true) (v : Bool) (M′ : State) (numbers : M′ .N ≡ N′)
       (changed : stands M′ by g ≡ v)
       (others : (by′ : Status) (h : Grant) → (_≡_ {A = Entry} (record { by = by′; what = h }) (record { by = by; what = g }) → ⊥) → stands M′ by′ h ≡ stands M by′ h) where
     abbrev at : ℕ
@@ -83,7 +83,7 @@ module _ {b : Book} {M : State} (u : Shows b M) (count : b .table .count ≡ len
     abbrev flags′ : List ℕ
     flags′ = set (b .flags) (flagPlace by at) (bit v)
 
-    new-flags : length (b .flags) ≡ allFlags → length N′ ≤ grants → (by′ : Status) (j : ℕ) → StatusForm by′ → j < length N′ → getD flags′ (flagPlace by′ j) 0 ≡ bit (stands M′ by′ (getD N′ j noGrant))
+    new-flags : length (b .flags) ≡ allFlags → length N′ ≤ grants → (by′ : Status) (j : ℕ) → StatusRange by′ → j < length N′ → getD flags′ (flagPlace by′ j) 0 ≡ bit (stands M′ by′ (getD N′ j noGrant))
     new-flags len small by′ j k l = go (ℕ-discrete (flagPlace by′ j) (flagPlace by at))
       where
         go : Dec (flagPlace by′ j ≡ flagPlace by at) → getD flags′ (flagPlace by′ j) 0 ≡ bit (stands M′ by′ (getD N′ j noGrant))
@@ -100,13 +100,13 @@ module _ {b : Book} {M : State} (u : Shows b M) (count : b .table .count ≡ len
             apart : by′ ≡ by → getD N′ j noGrant ≡ g → flagPlace by′ j ≡ flagPlace by at
             apart w e = λ i. flagPlace (w i) (distinct j at l at-lt (e ∙ sym at-is) i)
 
-    new-within : (by′ : Status) (h : Grant) → stands M′ by′ h ≡ true → (has h N′ ≡ true) × StatusForm by′
+    new-within : (by′ : Status) (h : Grant) → stands M′ by′ h ≡ true → (has h N′ ≡ true) × StatusRange by′
     new-within by′ h e = go (entry-dec (record { by = by′; what = h }) (record { by = by; what = g }))
       where
-        go : Dec (_≡_ {A = Entry} (record { by = by′; what = h }) (record { by = by; what = g })) → (has h N′ ≡ true) × StatusForm by′
+        go : Dec (_≡_ {A = Entry} (record { by = by′; what = h }) (record { by = by; what = g })) → (has h N′ ≡ true) × StatusRange by′
         go (yes q) = (
           subst (λ (x : Grant). has x N′ ≡ true) (sym (ap (λ (x : Entry). x .what) q)) there,
-          subst StatusForm (sym (ap (λ (x : Entry). x .by) q)) known,
+          subst StatusRange (sym (ap (λ (x : Entry). x .by) q)) known,
         )
         go (no d) = let a = u .within by′ h (sym (others by′ h d) ∙ e) in (has-ext h ext (a .0), a .1)
 
@@ -114,5 +114,5 @@ module _ {b : Book} {M : State} (u : Shows b M) (count : b .table .count ≡ len
     shows-set len small t r = record {
       rows = r ∙ sym numbers;
       flags = λ by′ i k l. subst (λ (X : List Grant). i < length X → getD flags′ (flagPlace by′ i) 0 ≡ bit (stands M′ by′ (getD X i noGrant))) (sym numbers) (new-flags len small by′ i k) l;
-      within = λ by′ h e. subst (λ (X : List Grant). (has h X ≡ true) × StatusForm by′) (sym numbers) (new-within by′ h e);
+      within = λ by′ h e. subst (λ (X : List Grant). (has h X ≡ true) × StatusRange by′) (sym numbers) (new-within by′ h e);
     }

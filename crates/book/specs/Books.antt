@@ -6,7 +6,7 @@ use mathlib.Core.List.{List}
 use lib.ListN.{length, getD}
 use Rattle.sorts.specs.declared.Status.{Status}
 use Rattle.sorts.specs.Numbers.{allMarks}
-use Rattle.sorts.specs.Flags.{StatusForm, rowFlags, allFlags, flag}
+use Rattle.sorts.specs.Flags.{StatusRange, rowFlags, allFlags, flag}
 use Rattle.rows.specs.Written.{Grant}
 use Rattle.rows.specs.Numbering.{has}
 use Rattle.rows.specs.Form.{rowsOut, TableForm}
@@ -35,5 +35,5 @@ bit is = cond is 1 0
 -- issuer is one of the 16.
 pub record Shows (b : Book) (M : State) : Type 0 where
   pub rows : rowsOut (b .table .rows) (b .table .count) ≡ M .N
-  pub flags : (by : Status) (g : ℕ) → StatusForm by → g < length (M .N) → flag (b .flags) by g ≡ bit (stands M by (grantAt M g))
-  pub within : (by : Status) (g : Grant) → stands M by g ≡ true → (has g (M .N) ≡ true) × StatusForm by
+  pub flags : (by : Status) (g : ℕ) → StatusRange by → g < length (M .N) → flag (b .flags) by g ≡ bit (stands M by (grantAt M g))
+  pub within : (by : Status) (g : Grant) → stands M by g ≡ true → (has g (M .N) ≡ true) × StatusRange by

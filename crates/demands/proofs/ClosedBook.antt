@@ -9,7 +9,7 @@ use native.Mathlib.Decide.{decLt}
 use lib.ListN.{length}
 use Rattle.sorts.specs.declared.Status.{Status}
 use Rattle.sorts.specs.declared.Status.the-variants.{Trusted, Issued}
-use Rattle.sorts.specs.Flags.{StatusForm, flagPlace}
+use Rattle.sorts.specs.Flags.{StatusRange, flagPlace}
 use Rattle.sorts.proofs.Flags.{place-from}
 use Rattle.rows.proofs.Shown.{Shown, form-shown}
 use Rattle.rules.specs.Rules as rules
@@ -48,12 +48,12 @@ module _ (b : Book) (m : List ℕ) (M : State) (f : BookForm b m) (sh : Shows b 
 
   -- the flags say what stands
 
-  flag-stands : (by : Status) (g : ℕ) → StatusForm by → Set (b .flags) by g → StandsAs M by g
+  flag-stands : (by : Status) (g : ℕ) → StatusRange by → Set (b .flags) by g → StandsAs M by g
   flag-stands by g k d =
       let l = flag-below by g d in
       (l, bit-set (stands M by (grantAt M g)) (λ e. d (sh .flags by g k l ∙ e)))
 
-  stands-flag : (by : Status) (g : ℕ) → StatusForm by → StandsAs M by g → Set (b .flags) by g
+  stands-flag : (by : Status) (g : ℕ) → StatusRange by → StandsAs M by g → Set (b .flags) by g
   stands-flag by g k h e = let q = sym e ∙ sh .flags by g k (h .0) ∙ ap bit (h .1) in omega arith
 
   -- the same sets are closed

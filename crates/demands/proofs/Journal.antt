@@ -6,7 +6,7 @@ use mathlib.Core.List.{List, [], _∷_}
 use Rattle.sorts.specs.declared.Status.the-variants.{Trusted}
 use Rattle.rows.specs.Written.{Grant, grant, none, property, perm, issue, written, sameBytes, sameWritten}
 use Rattle.rows.specs.Numbering.{place, has, add, number}
-use Rattle.ranges.specs.Bytes.{byteAt, upto, principal, pack, form, head}
+use Rattle.ranges.specs.Bytes.{byteAt, upto, principal, pack, tag, header}
 use Rattle.grants.specs.Grants.{readProperty, readPacked, readIssue, readConcl, readConds, readWith, readGrant}
 use Rattle.canon.specs.Canon.{canon}
 use Rattle.reader.specs.Records.{readEntry, readLicence, readQuery, readContent, kindWith, readMark, readRecord, readCanonical}
@@ -33,7 +33,7 @@ verdicts M [] = []
 verdicts M (s ∷ ss) = step M s .says ∷ verdicts (step M s .next) ss
 
 opened : State → List (List ℕ) → List Verdict
-unfolding byteAt upto principal pack form head readProperty readPacked readIssue readConcl readConds readWith readGrant readEntry readLicence readQuery readContent kindWith readMark readRecord canon readCanonical written sameBytes sameWritten place has add number member insert delete act step runs verdicts
+unfolding byteAt upto principal pack tag header readProperty readPacked readIssue readConcl readConds readWith readGrant readEntry readLicence readQuery readContent kindWith readMark readRecord canon readCanonical written sameBytes sameWritten place has add number member insert delete act step runs verdicts
 opened M ss = verdicts M ss
 
 pub journal-verdicts : verdicts start journal ≡ changes ∷ changes ∷ asks 290 ∷ changes ∷ asks 290 ∷ changes ∷ refuses 7 ∷ []

@@ -19,7 +19,7 @@ use Rattle.rows.specs.Written.{Grant, written, sameBytes, sameWritten}
 use Rattle.rows.specs.Numbering.{place, has, add, number}
 use Rattle.rows.specs.Form.{condsOf, rowOf}
 use Rattle.rows.proofs.Bytes.{no-true}
-use Rattle.ranges.specs.Bytes.{Outcome, got, byteAt, upto, principal, pack, form, head}
+use Rattle.ranges.specs.Bytes.{Outcome, got, byteAt, upto, principal, pack, tag, header}
 use Rattle.grants.specs.Grants.{readProperty, readPacked, readIssue, readConcl, readConds, readWith, readGrant}
 use Rattle.canon.specs.Canon.{canon}
 use Rattle.reader.specs.Records.{Record, enter, remove, readEntry, readLicence, readQuery, readContent, kindWith, readMark, readRecord, readCanonical}
@@ -256,11 +256,11 @@ journal-sums cs b m K e =
 -- THE ONE WAY: the second record, LI, loses nothing, and the sixth, WD, gains nothing.
 
 second-is : readCanonical (76 ∷ 73 ∷ 0 ∷ 0 ∷ 0 ∷ 0 ∷ 0 ∷ 2 ∷ 2 ∷ []) ≡ got (enter (Issued (record { 0 = 0 })) good) 9
-unfolding byteAt upto principal head readProperty readConcl readConds readWith readGrant readEntry readLicence readContent kindWith readMark readRecord canon readCanonical
+unfolding byteAt upto principal header readProperty readConcl readConds readWith readGrant readEntry readLicence readContent kindWith readMark readRecord canon readCanonical
 second-is = refl
 
 sixth-is : readCanonical (87 ∷ 68 ∷ 0 ∷ 0 ∷ 0 ∷ 0 ∷ 0 ∷ 2 ∷ 2 ∷ []) ≡ got (remove (Issued (record { 0 = 0 })) good) 9
-unfolding byteAt upto principal head readProperty readConcl readConds readWith readGrant readEntry readLicence readContent kindWith readMark readRecord canon readCanonical
+unfolding byteAt upto principal header readProperty readConcl readConds readWith readGrant readEntry readLicence readContent kindWith readMark readRecord canon readCanonical
 sixth-is = refl
 
 pub journal-one-way : (a b c d e f g : Call) (t : Book) (m : List ℕ) → Chain freshBook freshMarks (a ∷ b ∷ c ∷ d ∷ e ∷ f ∷ g ∷ []) t m →
@@ -275,11 +275,11 @@ journal-one-way a b c d e f g t m K h =
 -- THE ANSWERS: Good(2) is not permitted at the third record, and permitted at the fifth.
 
 third-asks : step (runs start (take 2 journal)) (getD journal 2 []) ≡ record { next = first; says = asks 290; used = 5 }
-unfolding byteAt upto principal pack form head readProperty readPacked readIssue readConcl readConds readWith readGrant readEntry readLicence readQuery readContent kindWith readMark readRecord canon readCanonical written sameBytes sameWritten place has add number member insert delete act step runs
+unfolding byteAt upto principal pack tag header readProperty readPacked readIssue readConcl readConds readWith readGrant readEntry readLicence readQuery readContent kindWith readMark readRecord canon readCanonical written sameBytes sameWritten place has add number member insert delete act step runs
 third-asks = refl
 
 fifth-asks : step (runs start (take 4 journal)) (getD journal 4 []) ≡ record { next = second; says = asks 290; used = 5 }
-unfolding byteAt upto principal pack form head readProperty readPacked readIssue readConcl readConds readWith readGrant readEntry readLicence readQuery readContent kindWith readMark readRecord canon readCanonical written sameBytes sameWritten place has add number member insert delete act step runs
+unfolding byteAt upto principal pack tag header readProperty readPacked readIssue readConcl readConds readWith readGrant readEntry readLicence readQuery readContent kindWith readMark readRecord canon readCanonical written sameBytes sameWritten place has add number member insert delete act step runs
 fifth-asks = refl
 
 pub journal-answers : {a b c d e f g : Call} {t : Book} {m : List ℕ} → Chain freshBook freshMarks (a ∷ b ∷ c ∷ d ∷ e ∷ f ∷ g ∷ []) t m →

@@ -9,8 +9,8 @@ use native.Mathlib.Decide.{ℕ-discrete}
 use lib.Dec.{eqb}
 use borrow.Author.Tests.{eq-eqb, eqb-true}
 use Rattle.sorts.specs.declared.Status.{Status}
-use Rattle.sorts.specs.Flags.{StatusForm, rowFlags, flagOf, flagPlace, flag}
-use Rattle.sorts.proofs.Flags.{statusOf, status-flag, status-form, flag-by, flag-high, place-in}
+use Rattle.sorts.specs.Flags.{StatusRange, rowFlags, flagOf, flagPlace, flag}
+use Rattle.sorts.proofs.Flags.{statusOf, status-flag, status-range, flag-by, flag-high, place-in}
 use Rattle.rows.specs.Written.{Grant}
 use Rattle.rows.specs.Form.{noGrant, rowsOut}
 use Rattle.rows.proofs.Bytes.{no-true}
@@ -58,14 +58,14 @@ module _ (b : Book) (m : List ℕ) (f : BookForm b m) where
   len = S .counted
 
   -- the flag of grant g and a status speaks of that entry
-  entry-at : (by : Status) (g : ℕ) → StatusForm by → entryOf (flagPlace by g) ≡ record { by = by; what = grantOf g }
+  entry-at : (by : Status) (g : ℕ) → StatusRange by → entryOf (flagPlace by g) ≡ record { by = by; what = grantOf g }
   entry-at by g k =
       let h = flag-high by k in
       let r : flagPlace by g % rowFlags ≡ flagOf by = omega arith in
       let q : flagPlace by g / rowFlags ≡ g = omega arith in
       λ i. record { by = (ap statusOf r ∙ flag-by (statusOf (flagOf by)) by (status-flag (flagOf by))) i; what = grantOf (q i) }
 
-  flag-is : (by : Status) (g : ℕ) → StatusForm by → g < length N → flag (b .flags) by g ≡ bit (member (record { by = by; what = grantOf g }) entries)
+  flag-is : (by : Status) (g : ℕ) → StatusRange by → g < length N → flag (b .flags) by g ≡ bit (member (record { by = by; what = grantOf g }) entries)
   unfolding entries
   flag-is by g k l =
       flag-bit (flag (b .flags) by g) (member (record { by = by; what = grantOf g }) entries) (f .flagBits (flagPlace by g))
@@ -90,7 +90,7 @@ module _ (b : Book) (m : List ℕ) (f : BookForm b m) where
           let w = entry-from (record { by = by; what = g }) e in
           let l = w .1 in (
             has-in g N (w .0 / rowFlags) (omega (arith, len)) (ap (λ (x : Entry). x .what) (w .3)),
-            subst StatusForm (ap (λ (x : Entry). x .by) (w .3)) (status-form (w .0 % rowFlags) (omega arith)),
+            subst StatusRange (ap (λ (x : Entry). x .by) (w .3)) (status-range (w .0 % rowFlags) (omega arith)),
           );
     },
   )

@@ -7,7 +7,7 @@ use native.Mathlib.Omega.{arith}
 use lib.ListN.{length, getD, List·getD-append}
 use Rattle.sorts.specs.declared.Status.{Status}
 use Rattle.sorts.specs.Blank.{noRow}
-use Rattle.sorts.specs.Flags.{StatusForm, flag}
+use Rattle.sorts.specs.Flags.{StatusRange, flag}
 use Rattle.rows.specs.Written.{Grant}
 use Rattle.rows.specs.Numbering.{place, has}
 use Rattle.rows.specs.Form.{noGrant}
@@ -57,7 +57,7 @@ module _ {b b′ : Book} {m m′ : List ℕ} {M M′ : State} (f : BookForm b m)
 
   module _ (at : SamePlace b M b′ M′) (grows : Grows M M′) where
     -- a flag that is set in the first is set in the second, at the same row
-    flag-grows : (by : Status) (g : ℕ) → StatusForm by → g < length (M .N) → (flag (b .flags) by g ≡ 0 → ⊥) →
+    flag-grows : (by : Status) (g : ℕ) → StatusRange by → g < length (M .N) → (flag (b .flags) by g ≡ 0 → ⊥) →
         (flag (b′ .flags) by g ≡ 0 → ⊥) × (getD (b .table .rows) g noRow ≡ getD (b′ .table .rows) g noRow)
     flag-grows by g k l d =
         let on = bit-set (stands M by (grantAt M g)) (λ e. d (sh .flags by g k l ∙ e)) in

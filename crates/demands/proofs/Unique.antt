@@ -9,7 +9,7 @@ use lib.ListN.{length, getD}
 use lib.Seq.{ext-getD}
 use Rattle.sorts.specs.Blank.{noRow}
 use Rattle.sorts.specs.Flags.{rowFlags, flagPlace}
-use Rattle.sorts.proofs.Flags.{statusOf, status-flag, status-form}
+use Rattle.sorts.proofs.Flags.{statusOf, status-flag, status-range}
 use Rattle.rows.proofs.Shown.{Shown}
 use Rattle.rows.proofs.Appended.{ext-refl}
 use Rattle.book.specs.declared.Book.{Book}
@@ -44,7 +44,7 @@ module _ {b b′ : Book} {m m′ : List ℕ} {M : State} (f : BookForm b m) (f�
   flag-at : (g j : ℕ) → j < rowFlags → g < length (M .N) → getD (b .flags) (rowFlags * g + j) 0 ≡ getD (b′ .flags) (rowFlags * g + j) 0
   flag-at g j k l =
       let e : rowFlags * g + j ≡ flagPlace (statusOf j) g = ap (λ (i : ℕ). rowFlags * g + i) (sym (status-flag j)) in
-      let w = status-form j k in
+      let w = status-range j k in
       ap (λ (i : ℕ). getD (b .flags) i 0) e ∙ sh .flags (statusOf j) g w l ∙ sym (sh′ .flags (statusOf j) g w l) ∙ ap (λ (i : ℕ). getD (b′ .flags) i 0) (sym e)
 
   flags-at : (i : ℕ) → Dec (i / rowFlags < length (M .N)) → getD (b .flags) i 0 ≡ getD (b′ .flags) i 0

@@ -8,7 +8,7 @@ use Rattle.sorts.specs.declared.Status.the-variants.{Trusted, Issued}
 use Rattle.rows.specs.Written.{grant, none, property, perm, issue, written}
 use Rattle.rows.specs.Form.{depth}
 use Rattle.rows.specs.Allowed.{Allowed}
-use Rattle.ranges.specs.Bytes.{Outcome, got, refused, byteAt, upto, principal, pack, form, head}
+use Rattle.ranges.specs.Bytes.{Outcome, got, refused, byteAt, upto, principal, pack, tag, header}
 use Rattle.grants.specs.Grants.{readProperty, readPacked, readIssue, readConcl, readConds, readWith, readGrant}
 use Rattle.reader.specs.Records.{Record, enter, query, kindWith, readMark, readEntry, readLicence, readQuery, readContent, readRecord}
 use Rattle.exact.specs.Writing.{writtenRecord, AllowedRecord}
@@ -16,7 +16,7 @@ use Rattle.exact.proofs.Exact.{record-read}
 
 -- the reader with all its parts open, so that it computes
 opened : List ℕ → Outcome Record
-unfolding byteAt upto principal pack form head readProperty readPacked readIssue readConcl readConds readWith readGrant readEntry readLicence readQuery readContent kindWith readMark readRecord
+unfolding byteAt upto principal pack tag header readProperty readPacked readIssue readConcl readConds readWith readGrant readEntry readLicence readQuery readContent kindWith readMark readRecord
 opened s = readRecord s
 
 -- a grant with no conditions that gives principal 0 the issue of the grant that follows

@@ -17,7 +17,7 @@ use Rattle.rows.specs.Written.{Grant, Conds, Concl}
 use Rattle.ranges.specs.declared.Scope.{Scope}
 use Rattle.reader.specs.declared.records.Kind.{Kind}
 use Rattle.reader.specs.declared.records.Kind.the-variants.{Tg, St, Li, Wd, Qu}
-use Rattle.ranges.specs.Bytes.{Outcome, got, refused, andThen, byteAt, upto, declared, principal, pack, form, Head, head}
+use Rattle.ranges.specs.Bytes.{Outcome, got, refused, andThen, byteAt, upto, declared, principal, pack, tag, Header, header}
 use Rattle.grants.specs.Grants.{readProperty, readPacked, readIssue, readConcl, readConds, readWith, readGrant}
 use Rattle.reader.specs.Records.{Record, enter, remove, lettersOf, kinds, opens, kindWith, readMark, readEntry, readLicence, nothingDeclared, readQuery, readContent, readRecord}
 
@@ -92,16 +92,16 @@ module _ (c : List ℕ) (b : ℕ) (y : List ℕ) where
       either (ltb x packs) _ _ _ _ (same x n l)
       (either (eqb x 128) _ _ _ _ (is-declared (eqb (v .res) 2) x n l) three)) (λ n. refl)
 
-  form-alike : (v : Scope) (at : ℕ) → at ≤ length c → Alike c b y ℕ (form v c at) (form v (c ++ (b ∷ y)) at)
-  unfolding form
-  form-alike v at h =
+  tag-alike : (v : Scope) (at : ℕ) → at ≤ length c → Alike c b y ℕ (tag v c at) (tag v (c ++ (b ∷ y)) at)
+  unfolding tag
+  tag-alike v at h =
       byte-alike _ at h (λ x n l.
       either (eqb x 0) _ _ _ _ (same x n l)
       (either (eqb x 1) _ _ _ _ (is-declared (eqb (v .res) 1) x n l) three)) (λ n. refl)
 
-  head-alike : (at : ℕ) → at ≤ length c → Alike c b y Head (head c at) (head (c ++ (b ∷ y)) at)
-  unfolding head
-  head-alike at h =
+  header-alike : (at : ℕ) → at ≤ length c → Alike c b y Header (header c at) (header (c ++ (b ∷ y)) at)
+  unfolding header
+  header-alike at h =
       and-then _ _ _ _ (upto-alike 2 at (omega arith) h) (λ prins n1 h1.
       and-then _ _ _ _ (upto-alike 2 n1 (omega arith) h1) (λ res n2 h2.
       and-then _ _ _ _ (upto-alike conditions n2 (omega arith) h2) (λ count n3 h3. same _ n3 h3)))
@@ -124,7 +124,7 @@ module _ (c : List ℕ) (b : ℕ) (y : List ℕ) where
     issue-alike : (p at : ℕ) → at ≤ length c → Alike c b y Concl (readIssue inner v p c at) (readIssue inner′ v p (c ++ (b ∷ y)) at)
     unfolding readIssue
     issue-alike p at h =
-        and-then _ _ _ _ (form-alike v at h) (λ x n1 h1.
+        and-then _ _ _ _ (tag-alike v at h) (λ x n1 h1.
         either (eqb x 1) _ _ _ _ (same _ n1 h1)
         (and-then _ _ _ _ (ok n1 h1) (λ g n2 h2. same _ n2 h2)))
 
@@ -147,7 +147,7 @@ module _ (c : List ℕ) (b : ℕ) (y : List ℕ) where
   with-alike : (inner inner′ : ℕ → Outcome Grant) → Inner inner inner′ → Inner (readWith inner c) (readWith inner′ (c ++ (b ∷ y)))
   unfolding readWith
   with-alike inner inner′ ok at h =
-      and-then _ _ _ _ (head-alike at h) (λ d n1 h1.
+      and-then _ _ _ _ (header-alike at h) (λ d n1 h1.
       and-then _ _ _ _ (conds-alike inner inner′ ok (d .scope) (d .count) n1 h1) (λ cs n2 h2.
       and-then _ _ _ _ (concl-alike inner inner′ ok (d .scope) n2 h2) (λ e n3 h3. same _ n3 h3)))
 

@@ -4,7 +4,7 @@ use mathlib.Core.List.{List, [], _∷_, _++_}
 use Rattle.sorts.specs.declared.Status.{Status}
 use Rattle.sorts.specs.declared.Status.the-variants.{Trusted, Issued}
 use Rattle.sorts.specs.Numbers.{depths}
-use Rattle.sorts.specs.Flags.{StatusForm}
+use Rattle.sorts.specs.Flags.{StatusRange}
 use Rattle.rows.specs.Written.{written, writtenConcl}
 use Rattle.rows.specs.Form.{depth, depthConcl}
 use Rattle.rows.specs.Allowed.{Allowed, AllowedConcl}
@@ -36,6 +36,6 @@ writtenRecord r = lettersOf (kindOf r) ++ contentOf r
 
 -- The records that can be read: issuers, and allowed grants and conclusions that are not too deep; a query declares nothing.
 unfoldable pub AllowedRecord : Record → Type 0
-AllowedRecord (enter by g) = StatusForm by × Allowed g × (depth g ≤ depths)
-AllowedRecord (remove by g) = StatusForm by × Allowed g × (depth g ≤ depths)
+AllowedRecord (enter by g) = StatusRange by × Allowed g × (depth g ≤ depths)
+AllowedRecord (remove by g) = StatusRange by × Allowed g × (depth g ≤ depths)
 AllowedRecord (query c) = AllowedConcl 0 0 c × (depthConcl c ≤ depths)

@@ -14,7 +14,7 @@ use Rattle.rows.specs.Form.{larger, depth, depthConds, depthConcl, depthRight}
 use Rattle.sorts.specs.RowForm.{PrinForm, PackForm}
 use Rattle.rows.specs.Allowed.{Allowed, AllowedConds, AllowedConcl, AllowedRight}
 use Rattle.ranges.specs.declared.Scope.{Scope}
-use Rattle.ranges.specs.Bytes.{Outcome, andThen, byteAt, upto, principal, pack, form, head, Head, declared}
+use Rattle.ranges.specs.Bytes.{Outcome, andThen, byteAt, upto, principal, pack, tag, header, Header, declared}
 use Rattle.grants.specs.Grants.{readProperty, readPacked, readIssue, readConcl, readConds, readWith, readGrant}
 use Rattle.grants.proofs.Spelled.{Spelled, join, nothing, byte-spelled}
 use Rattle.grants.proofs.Gives.{Gives, done, not-got, after, choose}
@@ -78,13 +78,13 @@ pack-found v s at =
     (λ h. not-got _ 3)))
 
 -- The byte after an issue's principal: a whole grant follows, or the grant variable stands there and is declared.
-abbrev pub FormIs : Scope → ℕ → Type 0
-FormIs v b = (b ≡ 0) ⊎ ((b ≡ 1) × (v .res ≡ 1))
+abbrev pub TagIs : Scope → ℕ → Type 0
+TagIs v b = (b ≡ 0) ⊎ ((b ≡ 1) × (v .res ≡ 1))
 
 -- the byte that was read after an issue's principal is such a byte
-pub form-found : (v : Scope) (s : List ℕ) (at : ℕ) → Gives (ByteRead (FormIs v) s at) (form v s at)
-unfolding form
-form-found v s at =
+pub tag-found : (v : Scope) (s : List ℕ) (at : ℕ) → Gives (ByteRead (TagIs v) s at) (tag v s at)
+unfolding tag
+tag-found v s at =
     byte-then _ s at _ (λ b n x.
     choose _ (eqb b 0) _ _
     (λ h. done _ b n (record { is = inl (eqb-true b 0 h); stands = x }))
@@ -161,7 +161,7 @@ module _ (left : ℕ) (s : List ℕ) (inner : ℕ → Outcome Grant) (ok : Finds
   issue-found : (at n1 p n2 : ℕ) → Spelled s at (1 ∷ []) n1 → PrinRead n1 p n2 → Gives (ConclFound left v s at) (readIssue inner v p s n2)
   unfolding readIssue AllowedConcl depth written
   issue-found at n1 p n2 x y =
-      after _ _ _ _ (form-found v s n2) (λ b n3 z.
+      after _ _ _ _ (tag-found v s n2) (λ b n3 z.
       choose _ (eqb b 1) _ _
       (λ h. let q : b ≡ 1 = eqb-true b 1 h in
       done _ _ _ (right-found at n1 p n2 issueAny n3 x y (any b q (z .is)) (omega arith) (rw q at (z .stands))))
@@ -169,11 +169,11 @@ module _ (left : ℕ) (s : List ℕ) (inner : ℕ → Outcome Grant) (ok : Finds
       after _ _ _ _ (ok n3) (λ g n4 i.
       done _ _ _ (right-found at n1 p n2 (issue g) n4 x y (i .allowed) (i .deep) (join (rw q at (z .stands)) (i .spelled))))))
     where
-      any : (b : ℕ) → b ≡ 1 → FormIs v b → v .res ≡ 1
+      any : (b : ℕ) → b ≡ 1 → TagIs v b → v .res ≡ 1
       any b e (inl h) = absurd (omega arith)
       any b e (inr h) = h .1
 
-      whole : (b : ℕ) → (b ≡ 1 → ⊥) → FormIs v b → b ≡ 0
+      whole : (b : ℕ) → (b ≡ 1 → ⊥) → TagIs v b → b ≡ 0
       whole b e (inl h) = h
       whole b e (inr h) = absurd (e (h .0))
 
@@ -205,16 +205,16 @@ module _ (left : ℕ) (s : List ℕ) (inner : ℕ → Outcome Grant) (ok : Finds
       }))))
 
 -- The three bytes that open a grant.
-pub record HeadFound (s : List ℕ) (at : ℕ) (h : Head) (n : ℕ) : Type 0 where
+pub record HeaderFound (s : List ℕ) (at : ℕ) (h : Header) (n : ℕ) : Type 0 where
   pub prins : h .scope .prins ≤ 2
   pub res : h .scope .res ≤ 2
   pub count : h .count ≤ conditions
   pub spelled : Spelled s at (h .scope .prins ∷ h .scope .res ∷ h .count ∷ []) n
 
 -- what is found in the bytes that open a grant
-pub head-found : (s : List ℕ) (at : ℕ) → Gives (HeadFound s at) (head s at)
-unfolding head
-head-found s at =
+pub header-found : (s : List ℕ) (at : ℕ) → Gives (HeaderFound s at) (header s at)
+unfolding header
+header-found s at =
     after _ _ _ _ (upto-found 2 s at) (λ prins n1 a.
     after _ _ _ _ (upto-found 2 s n1) (λ res n2 b.
     after _ _ _ _ (upto-found conditions s n2) (λ count n3 c.
@@ -224,7 +224,7 @@ head-found s at =
 with-found : (left : ℕ) (s : List ℕ) (inner : ℕ → Outcome Grant) → Finds left s inner → Finds (suc left) s (readWith inner s)
 unfolding readWith AllowedConcl depth written
 with-found left s inner ok at =
-    after _ _ _ _ (head-found s at) (λ h n1 a.
+    after _ _ _ _ (header-found s at) (λ h n1 a.
     after _ _ _ _ (conds-found left s inner ok (h .scope) (h .count) n1) (λ cs n2 b.
     after _ _ _ _ (concl-found left s inner ok (h .scope) n2) (λ c n3 d.
     done _ _ _ (record {

@@ -38,10 +38,10 @@ use Rattle.grants.specs.declared.ConclOut.the-variants as concl
 use Rattle.grants.specs.declared.ConclReading.{ConclReading}
 use Rattle.grants.specs.declared.CondsOut.the-variants as conds
 use Rattle.grants.specs.declared.CondsReading.{CondsReading}
-use Rattle.ranges.specs.Bytes.{Outcome, got, refused, andThen, Head, upto, principal, pack, form, head}
+use Rattle.ranges.specs.Bytes.{Outcome, got, refused, andThen, Header, upto, principal, pack, tag, header}
 use Rattle.grants.specs.Grants.{readProperty, readPacked, readIssue, readConcl, readConds, readWith, readGrant}
 use Rattle.grants.specs.inner.OnePass.{onOutcome, onGrant, onConcl, noG, gotC, noC, noE, rowed, numProperty, numPacked, numIssue, numConcl, numConds, numGranted, numWith, numGrant, blankConds}
-use Rattle.grants.proofs.Found.{head-found, grant-found}
+use Rattle.grants.proofs.Found.{header-found, grant-found}
 use Rattle.rows.proofs.RowForms.{row-form}
 
 pub good-small : {t : Numbering} {N : List Grant} → Good t N → t .full ≡ false → length N ≤ grants
@@ -129,7 +129,7 @@ module _ (inner : ℕ → Outcome Grant) (num : ℕ → Numbering → GrantReadi
   fuse-issue : (p at : ℕ) (t : Numbering) (N : List Grant) → Good t N → FuseC N (readIssue inner v p s at) (numIssue num v (record { 0 = p }) s at t)
   unfolding readIssue numIssue number
   fuse-issue p at t N G =
-      byteC N t (form v s at) _ _ (λ b n1.
+      byteC N t (tag v s at) _ _ (λ b n1.
       pickC N t (eqb b 1) _ _ _ _
       (record { row = Perm (record { 0 = p }) (Issue (record { 0 = 128 })); out = refl; good = G; names = λ e. (inr refl, refl) })
       (innerC N p (inner n1) (num n1 t) (ok n1 t N G)))
@@ -323,7 +323,7 @@ module _ (inner : ℕ → Outcome Grant) (num : ℕ → Numbering → GrantReadi
           subst (λ (w : Grant). Put N2 w (entered (b .numbering) x)) same
           (put (b .numbering) N2 x q R F (subst (λ (w : Grant). depth w ≤ depths) (sym same) (al .1)))
 
-  fuse-granted : (N : List Grant) (at n1 : ℕ) (h : Head) → head s at ≡ got h n1 → (o : Outcome Conds) (a : CondsReading) → readConds inner (h .scope) s (h .count) n1 ≡ o → FuseE N blankConds 0 (h .count) o a →
+  fuse-granted : (N : List Grant) (at n1 : ℕ) (h : Header) → header s at ≡ got h n1 → (o : Outcome Conds) (a : CondsReading) → readConds inner (h .scope) s (h .count) n1 ≡ o → FuseE N blankConds 0 (h .count) o a →
       FuseG N (andThen o (λ cs n2. andThen (readConcl inner (h .scope) s n2) (λ c n3. got (grant (h .scope .prins) (h .scope .res) cs c) n3))) (numGranted num (h .scope) (h .count) s a)
   unfolding numGranted readWith
   fuse-granted N at n1 h eh (refused k) a eo f = rw f refl
@@ -339,20 +339,20 @@ module _ (inner : ℕ → Outcome Grant) (num : ℕ → Numbering → GrantReadi
       concl-then (refused k) b ec g = rw g refl
       concl-then (got c n3) b ec g =
           rw (g .out) (made N (h .scope .prins) (h .scope .res) cn c n3 _
-          (entered-row N (h .scope) (h .count) n3 n2 cn a f c b g (allowed at _ n3 (whole c n3 ec)) (head-found s at h n1 eh .count)))
+          (entered-row N (h .scope) (h .count) n3 n2 cn a f c b g (allowed at _ n3 (whole c n3 ec)) (header-found s at h n1 eh .count)))
 
   fuse-with : Inner (readWith inner s) (numWith num s)
   unfolding readWith numWith
-  fuse-with at t N G = go (head s at) refl
+  fuse-with at t N G = go (header s at) refl
     where
-      go : (o : Outcome Head) → head s at ≡ o →
+      go : (o : Outcome Header) → header s at ≡ o →
           FuseG N (andThen o (λ h n1. andThen (readConds inner (h .scope) s (h .count) n1) (λ cs n2. andThen (readConcl inner (h .scope) s n2) (λ c n3. got (grant (h .scope .prins) (h .scope .res) cs c) n3))))
           (onOutcome o (noG t) (λ h n1. numGranted num (h .scope) (h .count) s (numConds num (h .scope) s (h .count) n1 0 blankConds t)))
       go (refused k) e = refl
       go (got h n1) e =
           fuse-granted N at n1 h e (readConds inner (h .scope) s (h .count) n1) (numConds num (h .scope) s (h .count) n1 0 blankConds t) refl
           (fuse-conds inner num ok (h .scope) s (h .count) n1 0 blankConds t N G
-          (record { four = refl; room = let m = head-found s at h n1 e .count in omega arith; below = λ e j h. absurd (omega arith); blank = blanks }))
+          (record { four = refl; room = let m = header-found s at h n1 e .count in omega arith; below = λ e j h. absurd (omega arith); blank = blanks }))
 
 -- What the one pass answers is what reading the grant and numbering it answers.
 pub fuse-grant : (d : ℕ) → d ≤ depths → (s : List ℕ) → Inner (readGrant d s) (numGrant d s)

@@ -14,7 +14,7 @@ use Rattle.rows.specs.Form.{larger, depth, depthConds, depthConcl, depthRight}
 use Rattle.sorts.specs.RowForm.{PrinForm, PackForm}
 use Rattle.rows.specs.Allowed.{Allowed, AllowedConds, AllowedConcl, AllowedRight}
 use Rattle.ranges.specs.declared.Scope.{Scope}
-use Rattle.ranges.specs.Bytes.{Outcome, got, refused, byteAt, upto, principal, pack, form, head, declared}
+use Rattle.ranges.specs.Bytes.{Outcome, got, refused, byteAt, upto, principal, pack, tag, header, declared}
 use Rattle.grants.specs.Grants.{readProperty, readPacked, readIssue, readConcl, readConds, readWith, readGrant}
 use Rattle.grants.proofs.Spelled.{Spelled, part, byte-stands}
 
@@ -68,7 +68,7 @@ module _ (left : ℕ) (s : List ℕ) (inner : ℕ → Outcome Grant) (ok : Rerea
   -- what is spelled after a right's principal is read
   right-reads : (r : Right) (p at n : ℕ) → AllowedRight (v .res) r → depthRight r ≤ left → Spelled s at (writtenRight r) n →
       cond (eqb (kindOf r) 1) (readIssue inner v p s at) (readPacked v (kindOf r) p s at) ≡ got (perm p r) n
-  unfolding readIssue readPacked form AllowedConcl depth written
+  unfolding readIssue readPacked tag AllowedConcl depth written
   right-reads (issue g) p at n a d x =
       let y = part (0 ∷ []) (written g) x in
       rw (byte-reads (y .first), ok g (y .place) n a d (y .second))
@@ -106,7 +106,7 @@ module _ (left : ℕ) (s : List ℕ) (inner : ℕ → Outcome Grant) (ok : Rerea
 
 -- one grant around those that the inner reader finds
 with-reads : (left : ℕ) (s : List ℕ) (inner : ℕ → Outcome Grant) → Rereads left s inner → Rereads (suc left) s (readWith inner s)
-unfolding readWith head AllowedConcl depth written
+unfolding readWith header AllowedConcl depth written
 with-reads left s inner ok (grant prins res cs c) at n a d x =
     let v : Scope = record { prins = prins; res = res } in
     let y = part (prins ∷ []) (res ∷ howMany cs ∷ (writtenConds cs ++ writtenConcl c)) x in

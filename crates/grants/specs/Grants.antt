@@ -7,7 +7,7 @@ use lib.Dec.{eqb}
 use Rattle.sorts.specs.Numbers.{properties}
 use Rattle.rows.specs.Written.{Grant, Conds, Concl, grant, none, also, property, perm, issue, issueAny, run, export}
 use Rattle.ranges.specs.declared.Scope.{Scope}
-use Rattle.ranges.specs.Bytes.{Outcome, got, refused, andThen, upto, principal, pack, form, head}
+use Rattle.ranges.specs.Bytes.{Outcome, got, refused, andThen, upto, principal, pack, tag, header}
 
 -- "00: property byte 00 to 0F, then a principal."
 unfoldable pub readProperty : Scope → List ℕ → ℕ → Outcome Concl
@@ -24,7 +24,7 @@ readPacked v kind p s at =
 -- an inner grant. "An inner grant is closed; its variables are its own."
 unfoldable pub readIssue : (ℕ → Outcome Grant) → Scope → ℕ → List ℕ → ℕ → Outcome Concl
 readIssue inner v p s at =
-    andThen (form v s at) (λ b n1.
+    andThen (tag v s at) (λ b n1.
     cond (eqb b 1) (got (perm p issueAny) n1)
     (andThen (inner n1) (λ g n2. got (perm p (issue g)) n2)))
 
@@ -47,7 +47,7 @@ readConds inner v s (suc k) at =
 -- The three bytes that open a grant, its conditions, and "the conclusion granted".
 unfoldable pub readWith : (ℕ → Outcome Grant) → List ℕ → ℕ → Outcome Grant
 readWith inner s at =
-    andThen (head s at) (λ h n1.
+    andThen (header s at) (λ h n1.
     andThen (readConds inner (h .scope) s (h .count) n1) (λ cs n2.
     andThen (readConcl inner (h .scope) s n2) (λ c n3.
     got (grant (h .scope .prins) (h .scope .res) cs c) n3)))

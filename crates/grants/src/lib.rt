@@ -1,6 +1,6 @@
 // The readers of a grant and of a conclusion, which call each other: one pass from left to right that reads and numbers.
 use ranges::Got;
-use ranges::HeadOut;
+use ranges::HeaderOut;
 use ranges::Scope;
 use rows::Numbering;
 use sorts::Concl;
@@ -67,12 +67,12 @@ pub fn read_grant(s: &[u8], at: usize, left: u8, t: Numbering) -> GrantReading
         };
     }
     let below = left - 1;
-    match ranges::read_head(s, at) {
-        HeadOut::No(k) => GrantReading {
+    match ranges::read_header(s, at) {
+        HeaderOut::No(k) => GrantReading {
             numbering: t,
             out: GrantOut::Refused(k),
         },
-        HeadOut::Got(v, count, n) => {
+        HeaderOut::Got(v, count, n) => {
             let blank = Cond::blank();
             let none = [blank; Row::CONDITIONS];
             let a = read_conds(s, n, below, v, count, 0, none, t);
@@ -250,13 +250,13 @@ fn read_issue(s: &[u8], at: usize, below: u8, v: Scope, p: Prin, t: Numbering) -
     ensures { λ r. ⌜ r ≡ numIssue (numGrant below (now (s .entry))) v p (now (s .entry)) at t ⌝ }
     ensures small { λ r. ⌜ r .numbering .table .count ≤ grants ⌝ }
 {
-    match ranges::read_form(v, s, at) {
+    match ranges::read_tag(v, s, at) {
         Got::No(k) => ConclReading {
             numbering: t,
             out: ConclOut::Refused(k),
         },
-        Got::Byte(form, n1) => {
-            if form == 1 {
+        Got::Byte(tag, n1) => {
+            if tag == 1 {
                 let any = GrantNo(GrantNo::VAR);
                 return ConclReading {
                     numbering: t,

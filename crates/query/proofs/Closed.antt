@@ -41,10 +41,10 @@ module _ (M : State) (F : Formed M) where
         (w : Given (every a) (rowAt M g) e) → Met S (rowAt M g) (w .x) (w .y) (w .z)
     unfolding condition
     met a f g e l w i k =
-        let form = ranged M F g l in
+        let range = ranged M F g l in
         f (saidUnder (getD (rowAt M g .conds) i blankCond) (w .x) (w .y) (w .z))
-        (said-under M F (rowAt M g) form (w .x) (w .y) (w .z) (w .first) (w .second) (w .resource) i k)
-        (every-at M F (rowAt M g) form (w .x) (w .y) (w .z) (w .first) (w .second) (w .resource) a (w .holds) i k)
+        (said-under M F (rowAt M g) range (w .x) (w .y) (w .z) (w .first) (w .second) (w .resource) i k)
+        (every-at M F (rowAt M g) range (w .x) (w .y) (w .z) (w .first) (w .second) (w .resource) a (w .holds) i k)
 
     pub said-sound : (k : ℕ) (d : Said) (E : List Said) → InSaid d → T (walk sameSaid (saidStep M) k d E) → S (saidMark (d .speaker) (d .what))
     said-sound =
@@ -99,7 +99,7 @@ module _ (M : State) (F : Formed M) where
   unfolding condition
   given-met g l x y z v m =
       let r = rowAt M g in
-      let form = ranged M F g l in
+      let range = ranged M F g l in
       record {
         x = x;
         y = y;
@@ -108,9 +108,9 @@ module _ (M : State) (F : Formed M) where
         second = v .second;
         resource = v .resource;
         gives = refl;
-        holds = at-every M F r form x y z (v .first) (v .second) (v .resource) (heard M) (λ i k.
+        holds = at-every M F r range x y z (v .first) (v .second) (v .resource) (heard M) (λ i k.
             let d = saidUnder (getD (r .conds) i blankCond) x y z in
-            subst T (answer-said d (said-under M F r form x y z (v .first) (v .second) (v .resource) i k)) (m i k));
+            subst T (answer-said d (said-under M F r range x y z (v .first) (v .second) (v .resource) i k)) (m i k));
       }
 
   answers-closed : ClosedSet M (λ n. T (answer n))

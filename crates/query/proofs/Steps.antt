@@ -169,7 +169,7 @@ module _ (M : State) (F : Formed M) where
   given-mono : (a b : Said → Bool) → ((d : Said) → InSaid d → T (a d) → T (b d)) → (g e : ℕ) → g < length (M .N) → Given (every a) (rowAt M g) e → Given (every b) (rowAt M g) e
   given-mono a b f g e l w =
       let row = rowAt M g in
-      let form = ranged g l in
+      let range = ranged g l in
       record {
         x = w .x;
         y = w .y;
@@ -178,9 +178,9 @@ module _ (M : State) (F : Formed M) where
         second = w .second;
         resource = w .resource;
         gives = w .gives;
-        holds = at-every row form (w .x) (w .y) (w .z) (w .first) (w .second) (w .resource) b (λ i k.
-            f (saidUnder (getD (row .conds) i blankCond) (w .x) (w .y) (w .z)) (said-under row form (w .x) (w .y) (w .z) (w .first) (w .second) (w .resource) i k)
-            (every-at row form (w .x) (w .y) (w .z) (w .first) (w .second) (w .resource) a (w .holds) i k));
+        holds = at-every row range (w .x) (w .y) (w .z) (w .first) (w .second) (w .resource) b (λ i k.
+            f (saidUnder (getD (row .conds) i blankCond) (w .x) (w .y) (w .z)) (said-under row range (w .x) (w .y) (w .z) (w .first) (w .second) (w .resource) i k)
+            (every-at row range (w .x) (w .y) (w .z) (w .first) (w .second) (w .resource) a (w .holds) i k));
       }
 
   said-mono : (a b : Said → Bool) → ((d : Said) → InSaid d → T (a d) → T (b d)) → (d : Said) → InSaid d → T (saidStep M a d) → T (saidStep M b d)

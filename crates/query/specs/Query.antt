@@ -8,7 +8,7 @@ use lib.ListN.{length, getD}
 use Rattle.sorts.specs.declared.Status.{Status}
 use Rattle.sorts.specs.Numbers.{speakers, grants, conclusions}
 use Rattle.sorts.specs.RowForm.{RowForm}
-use Rattle.sorts.specs.Flags.{StatusForm}
+use Rattle.sorts.specs.Flags.{StatusRange}
 use Rattle.rows.specs.Written.{Grant}
 use Rattle.rows.specs.Numbering.{has}
 use Rattle.rows.specs.Form.{noGrant}
@@ -23,7 +23,7 @@ pub record Formed (M : State) : Type 0 where
   pub few : length (M .N) ≤ grants
   pub distinct : (i j : ℕ) → i < length (M .N) → j < length (M .N) → getD (M .N) i noGrant ≡ getD (M .N) j noGrant → i ≡ j
   pub rows : (g : ℕ) → g < length (M .N) → RowForm g (rowAt M g)
-  pub within : (by : Status) (g : Grant) → stands M by g ≡ true → (has g (M .N) ≡ true) × StatusForm by
+  pub within : (by : Status) (g : Grant) → stands M by g ≡ true → (has g (M .N) ≡ true) × StatusRange by
 
 -- The statements that there are: e of 2,304 conclusions, and "p said e" of 16 principals.
 abbrev pub InTruth : ℕ → Type 0

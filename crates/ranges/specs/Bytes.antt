@@ -47,20 +47,20 @@ pack v s at =
     (cond (eqb b 128) (declared (eqb (v .res) 2) b n) (refused 3)))
 
 -- "00 and a whole grant, or 01 for the grant variable"; "a listed variable byte that is undeclared is 4, also at 01 after an issue"
-unfoldable pub form : Scope → List ℕ → ℕ → Outcome ℕ
-form v s at =
+unfoldable pub tag : Scope → List ℕ → ℕ → Outcome ℕ
+tag v s at =
     andThen (byteAt s at) (λ b n.
     cond (eqb b 0) (got b n)
     (cond (eqb b 1) (declared (eqb (v .res) 1) b n) (refused 3)))
 
 -- "one byte, how many principal variables, 0 to 2; one byte, the resource variable: 00 none, 01 over grants, 02 over packs;
 -- one byte, how many conditions, 0 to 4"
-pub record Head : Type 0 where
+pub record Header : Type 0 where
   pub scope : Scope
   pub count : ℕ
 
-unfoldable pub head : List ℕ → ℕ → Outcome Head
-head s at =
+unfoldable pub header : List ℕ → ℕ → Outcome Header
+header s at =
     andThen (upto 2 s at) (λ prins n1.
     andThen (upto 2 s n1) (λ res n2.
     andThen (upto conditions s n2) (λ count n3.

@@ -4,8 +4,8 @@ use sorts::Prin;
 use sorts::Refusal;
 use sorts::Row;
 ghost use mathlib.Core.Path.{_≡_};
-ghost use Rattle.ranges.specs.Bytes.{byteAt, declared, upto, principal, pack, form, head};
-ghost use Rattle.ranges.specs.inner.Answers.{asByte, asHead};
+ghost use Rattle.ranges.specs.Bytes.{byteAt, declared, upto, principal, pack, tag, header};
+ghost use Rattle.ranges.specs.inner.Answers.{asByte, asHeader};
 
 // How many conditions a grant may have.
 const CONDITIONS: u8 = Row::CONDITIONS as u8;
@@ -18,7 +18,7 @@ pub enum Got {
 
 // How many principal variables, which resource variable and how many conditions a grant has, with the place after these
 // three bytes; or the number of the refusal.
-pub enum HeadOut {
+pub enum HeaderOut {
     Got(Scope, u8, usize),
     No(u8),
 }
@@ -107,8 +107,8 @@ pub fn read_pack(v: Scope, s: &[u8], at: usize) -> Got
 }
 
 // What follows an issue right's principal: 0 where a grant comes, 1 for the grant variable where it is declared.
-pub fn read_form(v: Scope, s: &[u8], at: usize) -> Got
-    ensures { λ r. ⌜ r ≡ asByte (form v (now (s .entry)) at) ⌝ }
+pub fn read_tag(v: Scope, s: &[u8], at: usize) -> Got
+    ensures { λ r. ⌜ r ≡ asByte (tag v (now (s .entry)) at) ⌝ }
 {
     match read_byte(s, at) {
         Got::No(k) => Got::No(k),
@@ -125,16 +125,16 @@ pub fn read_form(v: Scope, s: &[u8], at: usize) -> Got
 }
 
 // The three bytes that open a grant.
-pub fn read_head(s: &[u8], at: usize) -> HeadOut
-    ensures { λ r. ⌜ r ≡ asHead (head (now (s .entry)) at) ⌝ }
+pub fn read_header(s: &[u8], at: usize) -> HeaderOut
+    ensures { λ r. ⌜ r ≡ asHeader (header (now (s .entry)) at) ⌝ }
 {
     match read_upto(2, s, at) {
-        Got::No(k) => HeadOut::No(k),
+        Got::No(k) => HeaderOut::No(k),
         Got::Byte(prins, n1) => match read_upto(2, s, n1) {
-            Got::No(k) => HeadOut::No(k),
+            Got::No(k) => HeaderOut::No(k),
             Got::Byte(res, n2) => match read_upto(CONDITIONS, s, n2) {
-                Got::No(k) => HeadOut::No(k),
-                Got::Byte(count, n3) => HeadOut::Got(Scope { prins, res }, count, n3),
+                Got::No(k) => HeaderOut::No(k),
+                Got::Byte(count, n3) => HeaderOut::Got(Scope { prins, res }, count, n3),
             },
         },
     }

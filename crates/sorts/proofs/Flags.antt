@@ -8,10 +8,10 @@ use borrow.Author.Tests.{eqb-true, eq-eqb}
 use Rattle.sorts.specs.declared.Status.{Status}
 use Rattle.sorts.specs.declared.Status.the-variants.{Trusted, Issued}
 use Rattle.sorts.specs.Numbers.{grants}
-use Rattle.sorts.specs.Flags.{StatusForm, rowFlags, allFlags, flagOf, flagPlace, sameStatus}
+use Rattle.sorts.specs.Flags.{StatusRange, rowFlags, allFlags, flagOf, flagPlace, sameStatus}
 use Rattle.sorts.proofs.Marks.{prin-is}
 
-pub flag-high : (by : Status) → StatusForm by → flagOf by < rowFlags
+pub flag-high : (by : Status) → StatusRange by → flagOf by < rowFlags
 flag-high Trusted f = omega arith
 flag-high (Issued p) f = omega arith
 
@@ -21,16 +21,16 @@ flag-by Trusted (Issued q) e = absurd (omega arith)
 flag-by (Issued p) Trusted e = absurd (omega arith)
 flag-by (Issued p) (Issued q) e = ap Issued (prin-is p q (omega arith))
 
-pub place-in : (by : Status) (g n : ℕ) → StatusForm by → g < n → flagPlace by g < rowFlags * n
+pub place-in : (by : Status) (g n : ℕ) → StatusRange by → g < n → flagPlace by g < rowFlags * n
 place-in by g n f l = omega (arith, flag-high by f)
 
-pub place-fits : (by : Status) (g : ℕ) → StatusForm by → g < grants → flagPlace by g < allFlags
+pub place-fits : (by : Status) (g : ℕ) → StatusRange by → g < grants → flagPlace by g < allFlags
 place-fits by g f l = omega (arith, flag-high by f)
 
 pub place-from : (by : Status) (count g : ℕ) → count ≤ g → rowFlags * count ≤ flagPlace by g
 place-from by count g l = omega arith
 
-pub place-row : (by by′ : Status) (g h : ℕ) → StatusForm by → StatusForm by′ → flagPlace by g ≡ flagPlace by′ h → g ≡ h
+pub place-row : (by by′ : Status) (g h : ℕ) → StatusRange by → StatusRange by′ → flagPlace by g ≡ flagPlace by′ h → g ≡ h
 place-row by by′ g h f f′ e = omega (arith, flag-high by f, flag-high by′ f′)
 
 pub place-by : (by by′ : Status) (g : ℕ) → flagPlace by g ≡ flagPlace by′ g → by ≡ by′
@@ -54,6 +54,6 @@ pub status-flag : (j : ℕ) → flagOf (statusOf j) ≡ j
 status-flag zero = refl
 status-flag (suc p) = omega arith
 
-pub status-form : (j : ℕ) → j < rowFlags → StatusForm (statusOf j)
-status-form zero l = tt
-status-form (suc p) l = omega arith
+pub status-range : (j : ℕ) → j < rowFlags → StatusRange (statusOf j)
+status-range zero l = tt
+status-range (suc p) l = omega arith

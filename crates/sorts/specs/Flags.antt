@@ -16,9 +16,9 @@ abbrev pub allFlags : ℕ
 allFlags = grants * rowFlags
 
 -- "A licence" is a pair of "issuer byte 00 to 0F" and grant.
-abbrev pub StatusForm : Status → Type 0
-StatusForm Trusted = Unit {0}
-StatusForm (Issued p) = p .0 < speakers
+abbrev pub StatusRange : Status → Type 0
+StatusRange Trusted = Unit {0}
+StatusRange (Issued p) = p .0 < speakers
 
 abbrev pub flagOf : Status → ℕ
 flagOf Trusted = 0

@@ -2,7 +2,7 @@
 use Rattle.rows.specs.Written.{written, writtenConds, writtenConcl, writtenRight, sameBytes, sameWritten}
 use Rattle.rows.specs.Numbering.{place, has, add, number, numberConds, numberConcl, numberRight}
 use Rattle.rows.specs.Form.{condsOf, rowOf}
-use Rattle.ranges.specs.Bytes.{byteAt, upto, principal, pack, form, head}
+use Rattle.ranges.specs.Bytes.{byteAt, upto, principal, pack, tag, header}
 use Rattle.grants.specs.Grants.{readProperty, readPacked, readIssue, readConcl, readConds, readWith, readGrant}
 use Rattle.canon.specs.Canon.{order, condBytes, orderCond, canon, insert as put}
 use Rattle.reader.specs.Records.{readEntry, readLicence, readQuery, readContent, kindWith, readMark, readRecord, readCanonical}
@@ -20,7 +20,7 @@ listed = tt
 
 -- the plain machine, fed an example's records
 unfoldable pub fed : Unit {0}
-unfolding writtenRecord byteAt upto principal pack form head readProperty readPacked readIssue readConcl readConds readWith readGrant readEntry readLicence readQuery readContent kindWith readMark readRecord order condBytes orderCond put canon readCanonical written writtenConds writtenConcl writtenRight sameBytes sameWritten place has add number numberConds numberConcl numberRight member insert delete act step runs
+unfolding writtenRecord byteAt upto principal pack tag header readProperty readPacked readIssue readConcl readConds readWith readGrant readEntry readLicence readQuery readContent kindWith readMark readRecord order condBytes orderCond put canon readCanonical written writtenConds writtenConcl writtenRight sameBytes sameWritten place has add number numberConds numberConcl numberRight member insert delete act step runs
 fed = tt
 
 -- the rows of its grants, and what they grant

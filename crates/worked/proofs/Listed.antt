@@ -12,7 +12,7 @@ use Rattle.sorts.specs.declared.Row.{Row}
 use Rattle.sorts.specs.declared.Status.{Status}
 use Rattle.sorts.specs.declared.Status.the-variants.{Trusted, Issued}
 use Rattle.sorts.specs.Blank.{noRow}
-use Rattle.sorts.specs.Flags.{StatusForm, rowFlags, flagOf, flag}
+use Rattle.sorts.specs.Flags.{StatusRange, rowFlags, flagOf, flag}
 use Rattle.sorts.proofs.Flags.{flag-high, flag-by, statusOf, status-flag}
 use Rattle.rows.specs.Written.{Grant}
 use Rattle.rows.specs.Form.{noGrant, rowOf}
@@ -81,15 +81,15 @@ module _ (M : State) where
   abbrev pub flagsOf : List ℕ
   flagsOf = flagsIn (M .entries) (M .N)
 
-  flag-is : (by : Status) (g : ℕ) → StatusForm by → g < length (M .N) → flag flagsOf by g ≡ bit (stands M by (grantAt M g))
+  flag-is : (by : Status) (g : ℕ) → StatusRange by → g < length (M .N) → flag flagsOf by g ≡ bit (stands M by (grantAt M g))
   flag-is by g f l =
       flags-at (M .entries) (M .N) g (flagOf by) (flag-high by f) l
       ∙ ap (λ (s : Status). bit (stands M s (grantAt M g))) (flag-by (statusOf (flagOf by)) by (status-flag (flagOf by)))
 
-  stands-flag : (by : Status) (g : ℕ) → StatusForm by → StandsAs M by g → Set flagsOf by g
+  stands-flag : (by : Status) (g : ℕ) → StatusRange by → StandsAs M by g → Set flagsOf by g
   stands-flag by g f h e = let q = sym e ∙ flag-is by g f (h .0) ∙ ap bit (h .1) in omega arith
 
-  flag-stands : (by : Status) (g : ℕ) → StatusForm by → Set flagsOf by g → StandsAs M by g
+  flag-stands : (by : Status) (g : ℕ) → StatusRange by → Set flagsOf by g → StandsAs M by g
   flag-stands by g f d = go (decLt g (length (M .N)))
     where
       go : Dec (g < length (M .N)) → StandsAs M by g

@@ -4,9 +4,9 @@ use native.Mathlib.Omega.{arith}
 use borrow.Author.Needs.{needs}
 use mathlib.Core.Path.{sym, _∙_}
 use Rattle.grants.specs.inner.OnePass.{numConcl, numConds, numWith, numGranted, numGrant, numIssue}
-use Rattle.ranges.proofs.Answers.{byte-got, byte-no, head-got, head-no}
+use Rattle.ranges.proofs.Answers.{byte-got, byte-no, header-got, header-no}
 use Rattle.grants.proofs.Steps.{grant-step, conds-step}
-use Rattle.grants.proofs.Found.{head-found}
+use Rattle.grants.proofs.Found.{header-found}
 use Prim.Native.Nat.{ℕ, _<_}
 use borrow.Fn.Kinds.{In}
 use borrow.Fn.PlainCycle.{Measures, is, falls, and}
@@ -25,8 +25,8 @@ use Rattle.grants.proofs.+read_concl+read_conds+read_grant+read_granted
 use Rattle.grants.proofs.read_issue.Reads as read-issue
 use Rattle.grants.proofs.read_issue.Kinds as read-issue-kinds
 use Rattle.grants.proofs.+read_concl+read_conds+read_grant+read_granted+read_issue.Lts-read_issue as read-issue-lts
-use Rattle.ranges.proofs.read_form.Reads as read-form-reads
-use Rattle.ranges.proofs.read_head.Reads as read-head-reads
+use Rattle.ranges.proofs.read_tag.Reads as read-tag-reads
+use Rattle.ranges.proofs.read_header.Reads as read-header-reads
 use Rattle.ranges.proofs.read_prin.Reads as read-prin-reads
 use Rattle.ranges.proofs.read_upto.Reads as read-upto-reads
 use Rattle.grants.proofs.read_packed.Reads as read-packed-reads
@@ -451,8 +451,8 @@ unfolding numConds
 read-conds-returns-4 t c = (rw (conds-step _ _ _ _ _ _ _ _ (c .before .before .before .before .before .before .before .before .before .before .if1 .left), byte-got _ _ _ (sym ((c .before .before .before .before .before .before .before .before .before .read-prin) .ensures) ∙ c .before .before .before .before .before .before .before .who .given .1), ← (c .before .before .before .before .before .read-concl) .ensures .0, c .before .before .o2 .given .1) ((c .read-conds) .ensures .0), search needs)
 
 read-grant-returns : (t : ℕ) → read-grant-lts.Need-returns (
-  read-head-reads.Asked,
-  read-head-reads.Learnt,
+  read-header-reads.Asked,
+  read-header-reads.Learnt,
   blank-reads.Asked,
   blank-reads.Learnt,
   read-conds-below t,
@@ -464,8 +464,8 @@ unfolding numGrant numWith
 read-grant-returns t c = (rw (c .if1 .taken), search needs)
 
 read-grant-sub-below : (t : ℕ) → read-grant-lts.Need-sub-below (
-  read-head-reads.Asked,
-  read-head-reads.Learnt,
+  read-header-reads.Asked,
+  read-header-reads.Learnt,
   blank-reads.Asked,
   blank-reads.Learnt,
   read-conds-below t,
@@ -475,9 +475,9 @@ read-grant-sub-below : (t : ℕ) → read-grant-lts.Need-sub-below (
 ) (read-grant-at t) read-grant.Post
 read-grant-sub-below t c = search needs
 
-read-grant-read-head-requires : (t : ℕ) → read-grant-lts.Need-read-head-requires (
-  read-head-reads.Asked,
-  read-head-reads.Learnt,
+read-grant-read-header-requires : (t : ℕ) → read-grant-lts.Need-read-header-requires (
+  read-header-reads.Asked,
+  read-header-reads.Learnt,
   blank-reads.Asked,
   blank-reads.Learnt,
   read-conds-below t,
@@ -485,11 +485,11 @@ read-grant-read-head-requires : (t : ℕ) → read-grant-lts.Need-read-head-requ
   read-granted-below t,
   read-granted.Post,
 ) (read-grant-at t) read-grant.Post
-read-grant-read-head-requires t c κs = search needs
+read-grant-read-header-requires t c κs = search needs
 
 read-grant-enum-known-k : (t : ℕ) → read-grant-lts.Need-enum-known-k (
-  read-head-reads.Asked,
-  read-head-reads.Learnt,
+  read-header-reads.Asked,
+  read-header-reads.Learnt,
   blank-reads.Asked,
   blank-reads.Learnt,
   read-conds-below t,
@@ -500,8 +500,8 @@ read-grant-enum-known-k : (t : ℕ) → read-grant-lts.Need-enum-known-k (
 read-grant-enum-known-k t c = search needs
 
 read-grant-enum-known-v : (t : ℕ) → read-grant-lts.Need-enum-known-v (
-  read-head-reads.Asked,
-  read-head-reads.Learnt,
+  read-header-reads.Asked,
+  read-header-reads.Learnt,
   blank-reads.Asked,
   blank-reads.Learnt,
   read-conds-below t,
@@ -512,8 +512,8 @@ read-grant-enum-known-v : (t : ℕ) → read-grant-lts.Need-enum-known-v (
 read-grant-enum-known-v t c = search needs
 
 read-grant-blank-requires : (t : ℕ) → read-grant-lts.Need-blank-requires (
-  read-head-reads.Asked,
-  read-head-reads.Learnt,
+  read-header-reads.Asked,
+  read-header-reads.Learnt,
   blank-reads.Asked,
   blank-reads.Learnt,
   read-conds-below t,
@@ -524,8 +524,8 @@ read-grant-blank-requires : (t : ℕ) → read-grant-lts.Need-blank-requires (
 read-grant-blank-requires t c κs = search needs
 
 read-grant-read-conds-requires : (t : ℕ) → read-grant-lts.Need-read-conds-requires (
-  read-head-reads.Asked,
-  read-head-reads.Learnt,
+  read-header-reads.Asked,
+  read-header-reads.Learnt,
   blank-reads.Asked,
   blank-reads.Learnt,
   read-conds-below t,
@@ -533,11 +533,11 @@ read-grant-read-conds-requires : (t : ℕ) → read-grant-lts.Need-read-conds-re
   read-granted-below t,
   read-granted.Post,
 ) (read-grant-at t) read-grant.Post
-read-grant-read-conds-requires t c κs = let h = head-found _ _ _ _ (head-got _ _ _ _ (sym ((c .before .before .before .before .read-head) .ensures) ∙ (c .before .before .v) .given .1)) .count in (omega arith, (search needs, omega arith))
+read-grant-read-conds-requires t c κs = let h = header-found _ _ _ _ (header-got _ _ _ _ (sym ((c .before .before .before .before .read-header) .ensures) ∙ (c .before .before .v) .given .1)) .count in (omega arith, (search needs, omega arith))
 
 read-grant-read-granted-requires : (t : ℕ) → read-grant-lts.Need-read-granted-requires (
-  read-head-reads.Asked,
-  read-head-reads.Learnt,
+  read-header-reads.Asked,
+  read-header-reads.Learnt,
   blank-reads.Asked,
   blank-reads.Learnt,
   read-conds-below t,
@@ -548,8 +548,8 @@ read-grant-read-granted-requires : (t : ℕ) → read-grant-lts.Need-read-grante
 read-grant-read-granted-requires t c κs = (omega arith, search needs)
 
 read-grant-returns-2 : (t : ℕ) → read-grant-lts.Need-returns-2 (
-  read-head-reads.Asked,
-  read-head-reads.Learnt,
+  read-header-reads.Asked,
+  read-header-reads.Learnt,
   blank-reads.Asked,
   blank-reads.Learnt,
   read-conds-below t,
@@ -558,11 +558,11 @@ read-grant-returns-2 : (t : ℕ) → read-grant-lts.Need-returns-2 (
   read-granted.Post,
 ) (read-grant-at t) read-grant.Post
 unfolding numGrant numWith
-read-grant-returns-2 t c = (rw (grant-step _ _ _ _ (c .before .before .before .before .if1 .left), head-no _ _ (sym ((c .before .before .before .read-head) .ensures) ∙ c .before .k .given .1)), search needs)
+read-grant-returns-2 t c = (rw (grant-step _ _ _ _ (c .before .before .before .before .if1 .left), header-no _ _ (sym ((c .before .before .before .read-header) .ensures) ∙ c .before .k .given .1)), search needs)
 
 read-grant-returns-3 : (t : ℕ) → read-grant-lts.Need-returns-3 (
-  read-head-reads.Asked,
-  read-head-reads.Learnt,
+  read-header-reads.Asked,
+  read-header-reads.Learnt,
   blank-reads.Asked,
   blank-reads.Learnt,
   read-conds-below t,
@@ -571,7 +571,7 @@ read-grant-returns-3 : (t : ℕ) → read-grant-lts.Need-returns-3 (
   read-granted.Post,
 ) (read-grant-at t) read-grant.Post
 unfolding numGrant numWith
-read-grant-returns-3 t c = (rw (grant-step _ _ _ _ (c .before .before .before .before .before .before .before .if1 .left), head-got _ _ _ _ (sym ((c .before .before .before .before .before .before .read-head) .ensures) ∙ c .before .before .before .before .v .given .1), ← (c .before .before .blank) .ensures, ← (c .before .read-conds) .ensures .0) ((c .read-granted) .ensures .0), search needs)
+read-grant-returns-3 t c = (rw (grant-step _ _ _ _ (c .before .before .before .before .before .before .before .if1 .left), header-got _ _ _ _ (sym ((c .before .before .before .before .before .before .read-header) .ensures) ∙ c .before .before .before .before .v .given .1), ← (c .before .before .blank) .ensures, ← (c .before .read-conds) .ensures .0) ((c .read-granted) .ensures .0), search needs)
 
 read-granted-enum-known-o : (t : ℕ) → read-granted-lts.Need-enum-known-o (
   read-concl-below t,
@@ -648,89 +648,89 @@ read-granted-returns-3 : (t : ℕ) → read-granted-lts.Need-returns-3 (
 unfolding numGranted
 read-granted-returns-3 t c = (rw (c .before .before .before .before .before .before .before .before .before .o2 .given .1, ← (c .before .before .before .before .before .before .before .read-concl) .ensures .0, c .before .before .before .before .p2 .given .1, ← (c .before .before .enter) .ensures .0), search needs)
 
-read-issue-read-form-requires : (t : ℕ) → read-issue-lts.Need-read-form-requires (
-  read-form-reads.Asked,
-  read-form-reads.Learnt,
+read-issue-read-tag-requires : (t : ℕ) → read-issue-lts.Need-read-tag-requires (
+  read-tag-reads.Asked,
+  read-tag-reads.Learnt,
   read-grant-below t,
   read-grant.Post,
 ) (read-issue-at t) read-issue.Post
-read-issue-read-form-requires t c κs = search needs
+read-issue-read-tag-requires t c κs = search needs
 
 read-issue-enum-known-k : (t : ℕ) → read-issue-lts.Need-enum-known-k (
-  read-form-reads.Asked,
-  read-form-reads.Learnt,
+  read-tag-reads.Asked,
+  read-tag-reads.Learnt,
   read-grant-below t,
   read-grant.Post,
 ) (read-issue-at t) read-issue.Post
 read-issue-enum-known-k t c = search needs
 
-read-issue-enum-known-form : (t : ℕ) → read-issue-lts.Need-enum-known-form (
-  read-form-reads.Asked,
-  read-form-reads.Learnt,
+read-issue-enum-known-tag : (t : ℕ) → read-issue-lts.Need-enum-known-tag (
+  read-tag-reads.Asked,
+  read-tag-reads.Learnt,
   read-grant-below t,
   read-grant.Post,
 ) (read-issue-at t) read-issue.Post
-read-issue-enum-known-form t c = search needs
+read-issue-enum-known-tag t c = search needs
 
 read-issue-returns : (t : ℕ) → read-issue-lts.Need-returns (
-  read-form-reads.Asked,
-  read-form-reads.Learnt,
+  read-tag-reads.Asked,
+  read-tag-reads.Learnt,
   read-grant-below t,
   read-grant.Post,
 ) (read-issue-at t) read-issue.Post
 unfolding numIssue
-read-issue-returns t c = (rw (byte-got _ _ _ (sym ((c .before .before .before .before .read-form) .ensures) ∙ c .before .before .form .given .1), eq-eqb _ _ (c .if1 .taken)), search needs)
+read-issue-returns t c = (rw (byte-got _ _ _ (sym ((c .before .before .before .before .read-tag) .ensures) ∙ c .before .before .tag .given .1), eq-eqb _ _ (c .if1 .taken)), search needs)
 
 read-issue-read-grant-requires : (t : ℕ) → read-issue-lts.Need-read-grant-requires (
-  read-form-reads.Asked,
-  read-form-reads.Learnt,
+  read-tag-reads.Asked,
+  read-tag-reads.Learnt,
   read-grant-below t,
   read-grant.Post,
 ) (read-issue-at t) read-issue.Post
 read-issue-read-grant-requires t c κs = (omega arith, search needs)
 
 read-issue-enum-known-o : (t : ℕ) → read-issue-lts.Need-enum-known-o (
-  read-form-reads.Asked,
-  read-form-reads.Learnt,
+  read-tag-reads.Asked,
+  read-tag-reads.Learnt,
   read-grant-below t,
   read-grant.Post,
 ) (read-issue-at t) read-issue.Post
 read-issue-enum-known-o t c = search needs
 
 read-issue-enum-known-o-2 : (t : ℕ) → read-issue-lts.Need-enum-known-o-2 (
-  read-form-reads.Asked,
-  read-form-reads.Learnt,
+  read-tag-reads.Asked,
+  read-tag-reads.Learnt,
   read-grant-below t,
   read-grant.Post,
 ) (read-issue-at t) read-issue.Post
 read-issue-enum-known-o-2 t c = search needs
 
 read-issue-returns-2 : (t : ℕ) → read-issue-lts.Need-returns-2 (
-  read-form-reads.Asked,
-  read-form-reads.Learnt,
+  read-tag-reads.Asked,
+  read-tag-reads.Learnt,
   read-grant-below t,
   read-grant.Post,
 ) (read-issue-at t) read-issue.Post
 unfolding numIssue
-read-issue-returns-2 t c = (rw (byte-no _ _ (sym ((c .before .before .before .read-form) .ensures) ∙ c .before .k .given .1)), search needs)
+read-issue-returns-2 t c = (rw (byte-no _ _ (sym ((c .before .before .before .read-tag) .ensures) ∙ c .before .k .given .1)), search needs)
 
 read-issue-returns-3 : (t : ℕ) → read-issue-lts.Need-returns-3 (
-  read-form-reads.Asked,
-  read-form-reads.Learnt,
+  read-tag-reads.Asked,
+  read-tag-reads.Learnt,
   read-grant-below t,
   read-grant.Post,
 ) (read-issue-at t) read-issue.Post
 unfolding numIssue
-read-issue-returns-3 t c = (rw (byte-got _ _ _ (sym ((c .before .before .before .before .before .before .before .before .before .read-form) .ensures) ∙ c .before .before .before .before .before .before .before .form .given .1), ne-eqb _ _ (c .before .before .before .before .before .if1 .left), ← (c .before .before .before .before .read-grant) .ensures .0, c .before .o .given .1), search needs)
+read-issue-returns-3 t c = (rw (byte-got _ _ _ (sym ((c .before .before .before .before .before .before .before .before .before .read-tag) .ensures) ∙ c .before .before .before .before .before .before .before .tag .given .1), ne-eqb _ _ (c .before .before .before .before .before .if1 .left), ← (c .before .before .before .before .read-grant) .ensures .0, c .before .o .given .1), search needs)
 
 read-issue-returns-4 : (t : ℕ) → read-issue-lts.Need-returns-4 (
-  read-form-reads.Asked,
-  read-form-reads.Learnt,
+  read-tag-reads.Asked,
+  read-tag-reads.Learnt,
   read-grant-below t,
   read-grant.Post,
 ) (read-issue-at t) read-issue.Post
 unfolding numIssue
-read-issue-returns-4 t c = (rw (byte-got _ _ _ (sym ((c .before .before .before .before .before .before .before .before .before .read-form) .ensures) ∙ c .before .before .before .before .before .before .before .form .given .1), ne-eqb _ _ (c .before .before .before .before .before .if1 .left), ← (c .before .before .before .before .read-grant) .ensures .0, c .before .o2 .given .1), search needs)
+read-issue-returns-4 t c = (rw (byte-got _ _ _ (sym ((c .before .before .before .before .before .before .before .before .before .read-tag) .ensures) ∙ c .before .before .before .before .before .before .before .tag .given .1), ne-eqb _ _ (c .before .before .before .before .before .if1 .left), ← (c .before .before .before .before .read-grant) .ensures .0, c .before .o2 .given .1), search needs)
 
 pub +read-concl+read-conds+read-grant+read-granted+read-issue-spec : {M : Type 1} → statement M
 +read-concl+read-conds+read-grant+read-granted+read-issue-spec =
@@ -794,8 +794,8 @@ pub +read-concl+read-conds+read-grant+read-granted+read-issue-spec : {M : Type 1
     (read-conds-returns-3 t)
     (read-conds-returns-4 t))
     (λ t. read-grant-lts.spec (
-      read-head-reads.Asked,
-      read-head-reads.Learnt,
+      read-header-reads.Asked,
+      read-header-reads.Learnt,
       blank-reads.Asked,
       blank-reads.Learnt,
       read-conds-below t,
@@ -807,7 +807,7 @@ pub +read-concl+read-conds+read-grant+read-granted+read-issue-spec : {M : Type 1
     read-grant.Post
     (read-grant-returns t)
     (read-grant-sub-below t)
-    (read-grant-read-head-requires t)
+    (read-grant-read-header-requires t)
     (read-grant-enum-known-k t)
     (read-grant-enum-known-v t)
     (read-grant-blank-requires t)
@@ -833,12 +833,12 @@ pub +read-concl+read-conds+read-grant+read-granted+read-issue-spec : {M : Type 1
     (read-granted-returns-2 t)
     (read-granted-returns-3 t))
     λ t. read-issue-lts.spec
-    (read-form-reads.Asked, read-form-reads.Learnt, read-grant-below t, read-grant.Post)
+    (read-tag-reads.Asked, read-tag-reads.Learnt, read-grant-below t, read-grant.Post)
     (read-issue-at t)
     read-issue.Post
-    (read-issue-read-form-requires t)
+    (read-issue-read-tag-requires t)
     (read-issue-enum-known-k t)
-    (read-issue-enum-known-form t)
+    (read-issue-enum-known-tag t)
     (read-issue-returns t)
     (read-issue-read-grant-requires t)
     (read-issue-enum-known-o t)

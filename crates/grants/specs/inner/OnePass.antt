@@ -16,7 +16,7 @@ use Rattle.rows.specs.declared.Numbering.{Numbering}
 use Rattle.rows.specs.declared.Entered.{Entered}
 use Rattle.rows.specs.inner.Lookup.{entered}
 use Rattle.ranges.specs.declared.Scope.{Scope}
-use Rattle.ranges.specs.Bytes.{Outcome, got, refused, upto, principal, pack, form, head}
+use Rattle.ranges.specs.Bytes.{Outcome, got, refused, upto, principal, pack, tag, header}
 use Rattle.grants.specs.declared.GrantOut.{GrantOut}
 use Rattle.grants.specs.declared.GrantOut.the-variants as grant
 use Rattle.grants.specs.declared.GrantReading.{GrantReading}
@@ -72,7 +72,7 @@ numPacked v kind p s at =
 -- `inner` reads and numbers an inner grant
 unfoldable pub numIssue : (ℕ → Numbering → GrantReading) → Scope → Prin → List ℕ → ℕ → Numbering → ConclReading
 numIssue inner v p s at t =
-    onOutcome (form v s at) (noC t) (λ b n1.
+    onOutcome (tag v s at) (noC t) (λ b n1.
     cond (eqb b 1) (gotC t (Perm p (Issue (record { 0 = 128 }))) n1)
     (onGrant (inner n1 t .out) (noC (inner n1 t .numbering)) (λ g n2. gotC (inner n1 t .numbering) (Perm p (Issue g)) n2)))
 
@@ -107,7 +107,7 @@ blankConds = replicate conditions blankCond
 
 unfoldable pub numWith : (ℕ → Numbering → GrantReading) → List ℕ → ℕ → Numbering → GrantReading
 numWith inner s at t =
-    onOutcome (head s at) (noG t) (λ h n.
+    onOutcome (header s at) (noG t) (λ h n.
     numGranted inner (h .scope) (h .count) s (numConds inner (h .scope) s (h .count) n 0 blankConds t))
 
 unfoldable pub numGrant : ℕ → List ℕ → ℕ → Numbering → GrantReading

@@ -1,10 +1,10 @@
-use Rattle.ranges.specs.inner.Answers.{asHead}
+use Rattle.ranges.specs.inner.Answers.{asHeader}
 use mathlib.Core.Path.{sym, _∙_}
-use Rattle.ranges.specs.Bytes.{head}
+use Rattle.ranges.specs.Bytes.{header}
 use Rattle.ranges.proofs.Answers.{byte-got, byte-no}
 use borrow.Author.Needs.{needs}
-use Rattle.ranges.proofs.read_head.Statement.{statement}
-use Rattle.ranges.proofs.read_head.Tie as tie
+use Rattle.ranges.proofs.read_header.Statement.{statement}
+use Rattle.ranges.proofs.read_header.Tie as tie
 
 read-upto-requires : tie.Need-read-upto-requires
 read-upto-requires c κs = search needs
@@ -34,23 +34,23 @@ enum-known-count : tie.Need-enum-known-count
 enum-known-count c = search needs
 
 returns : tie.Need-returns
-unfolding asHead head
+unfolding asHeader header
 returns c = rw (byte-no _ _ (sym ((c .before .before .before .read-upto) .ensures) ∙ c .before .k .given .1))
 
 returns-2 : tie.Need-returns-2
-unfolding asHead head
+unfolding asHeader header
 returns-2 c = rw (byte-got _ _ _ (sym ((c .before .before .before .before .before .before .before .read-upto) .ensures) ∙ c .before .before .before .before .before .prins .given .1), byte-no _ _ (sym ((c .before .before .before .read-upto2) .ensures) ∙ c .before .k2 .given .1))
 
 returns-3 : tie.Need-returns-3
-unfolding asHead head
+unfolding asHeader header
 returns-3 c = rw (byte-got _ _ _ (sym ((c .before .before .before .before .before .before .before .before .before .before .before .read-upto) .ensures) ∙ c .before .before .before .before .before .before .before .before .before .prins .given .1), byte-got _ _ _ (sym ((c .before .before .before .before .before .before .before .read-upto2) .ensures) ∙ c .before .before .before .before .before .res .given .1), byte-no _ _ (sym ((c .before .before .before .read-upto3) .ensures) ∙ c .before .k3 .given .1))
 
 returns-4 : tie.Need-returns-4
-unfolding asHead head
+unfolding asHeader header
 returns-4 c = rw (byte-got _ _ _ (sym ((c .before .before .before .before .before .before .before .before .before .before .before .read-upto) .ensures) ∙ c .before .before .before .before .before .before .before .before .before .prins .given .1), byte-got _ _ _ (sym ((c .before .before .before .before .before .before .before .read-upto2) .ensures) ∙ c .before .before .before .before .before .res .given .1), byte-got _ _ _ (sym ((c .before .before .before .read-upto3) .ensures) ∙ c .before .count .given .1))
 
-pub read-head-spec : {M : Type 1} → statement M
-read-head-spec =
+pub read-header-spec : {M : Type 1} → statement M
+read-header-spec =
     tie.close
     (tie.spec
     read-upto-requires
