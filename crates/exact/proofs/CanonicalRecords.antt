@@ -4,13 +4,13 @@ use mathlib.Core.List.{List, _++_}
 use mathlib.Core.Path.{_≡_, refl, sym, subst, _∙_, ap}
 use native.Mathlib.Omega.{arith}
 use lib.ListN.{length, length-append}
-use Rattle.sorts.specs.declared.Status.the-variants.{Trusted, Issued}
+use Rattle.sorts.specs.declared.Status.the-variants.{Trusted, Issued, Provisional}
 use Rattle.ranges.specs.Bytes.{Outcome, got, refused, andThen}
-use Rattle.reader.specs.Records.{Record, enter, remove, query, readRecord, lettersOf, canonRecord, readCanonical}
+use Rattle.reader.specs.Records.{Record, enter, remove, confirm, query, readRecord, lettersOf, canonRecord, readCanonical}
 use Rattle.exact.specs.Writing.{kindOf, writtenStatus, contentOf, writtenRecord, AllowedRecord}
 use Rattle.exact.proofs.Exact.{record-read, record-exact}
-use Rattle.rows.specs.Written.{written, writtenConcl}
-use Rattle.canon.specs.Canon.{canon, canonConcl, Canonical, CanonicalConcl}
+use Rattle.rows.specs.Written.{Grant, written}
+use Rattle.canon.specs.Canon.{canon, Canonical, CanonicalConcl}
 use Rattle.canon.proofs.Form.{canon-canonical, concl-canonical, canonical-own, concl-own}
 use Rattle.canon.proofs.Size as size
 
@@ -18,17 +18,20 @@ use Rattle.canon.proofs.Size as size
 abbrev pub CanonicalRecord : Record → Type 0
 CanonicalRecord (enter by g) = Canonical g
 CanonicalRecord (remove by g) = Canonical g
+CanonicalRecord (confirm p g) = Canonical g
 CanonicalRecord (query c) = CanonicalConcl c
 
 pub record-canonical : (r : Record) → CanonicalRecord (canonRecord r)
 record-canonical (enter by g) = canon-canonical g
 record-canonical (remove by g) = canon-canonical g
+record-canonical (confirm p g) = canon-canonical g
 record-canonical (query c) = concl-canonical c
 
 -- a record in form is its own form
 pub record-own : (r : Record) → CanonicalRecord r → canonRecord r ≡ r
 record-own (enter by g) h = ap (enter by) (canonical-own g h)
 record-own (remove by g) h = ap (remove by) (canonical-own g h)
+record-own (confirm p g) h = ap (confirm p) (canonical-own g h)
 record-own (query c) h = ap query (concl-own c h)
 
 pub record-twice : (r : Record) → canonRecord (canonRecord r) ≡ canonRecord r
@@ -37,8 +40,11 @@ record-twice r = record-own (canonRecord r) (record-canonical r)
 pub record-kind : (r : Record) → kindOf (canonRecord r) ≡ kindOf r
 record-kind (enter Trusted g) = refl
 record-kind (enter (Issued p) g) = refl
+record-kind (enter (Provisional p) g) = refl
 record-kind (remove Trusted g) = refl
 record-kind (remove (Issued p) g) = refl
+record-kind (remove (Provisional p) g) = refl
+record-kind (confirm p g) = refl
 record-kind (query c) = refl
 
 -- what can be read can be read in form
@@ -46,12 +52,17 @@ pub record-allowed : (r : Record) → AllowedRecord r → AllowedRecord (canonRe
 unfolding AllowedRecord
 record-allowed (enter by g) a = (a .0, size.canon-allowed g (a .1), rw size.canon-depth (a .2))
 record-allowed (remove by g) a = (a .0, size.canon-allowed g (a .1), rw size.canon-depth (a .2))
+record-allowed (confirm p g) a = (a .0, size.canon-allowed g (a .1), rw size.canon-depth (a .2))
 record-allowed (query c) a = (size.concl-allowed c 0 0 (a .0), rw size.concl-depth (a .1))
 
 -- it has no more bytes
+after-status : (w : List ℕ) (g : Grant) → length (w ++ written (canon g)) ≤ length (w ++ written g)
+after-status w g = omega (arith, length-append w (written (canon g)), length-append w (written g), size.canon-length g)
+
 content-shorter : (r : Record) → length (contentOf (canonRecord r)) ≤ length (contentOf r)
-content-shorter (enter by g) = omega (arith, length-append (writtenStatus by) (written (canon g)), length-append (writtenStatus by) (written g), size.canon-length g)
-content-shorter (remove by g) = omega (arith, length-append (writtenStatus by) (written (canon g)), length-append (writtenStatus by) (written g), size.canon-length g)
+content-shorter (enter by g) = after-status (writtenStatus by) g
+content-shorter (remove by g) = after-status (writtenStatus by) g
+content-shorter (confirm p g) = after-status (writtenStatus (Provisional p)) g
 content-shorter (query c) = size.concl-length c
 
 pub record-shorter : (r : Record) → length (writtenRecord (canonRecord r)) ≤ length (writtenRecord r)

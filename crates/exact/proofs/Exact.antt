@@ -5,18 +5,17 @@ use mathlib.Core.List.{List, [], _∷_, _++_}
 use native.Mathlib.Omega.{arith}
 use lib.ListN.{length, take}
 use Rattle.sorts.specs.declared.Prin.{Prin}
-use Rattle.sorts.specs.declared.Status.{Status}
-use Rattle.sorts.specs.declared.Status.the-variants.{Trusted, Issued}
+use Rattle.sorts.specs.declared.Status.the-variants.{Trusted, Issued, Provisional}
 use Rattle.sorts.specs.Numbers.{speakers, depths}
 use Rattle.rows.specs.Written.{Grant, grant, written}
 use Rattle.rows.specs.Form.{depth}
 use Rattle.rows.specs.Allowed.{Allowed}
 use Rattle.reader.specs.declared.records.Kind.{Kind}
-use Rattle.reader.specs.declared.records.Kind.the-variants.{Tg, St, Li, Wd, Qu}
+use Rattle.reader.specs.declared.records.Kind.the-variants.{Tg, St, Li, Wd, Qu, Pl, Cf}
 use Rattle.ranges.specs.Bytes.{got}
 use Rattle.grants.specs.Grants.{readGrant}
 use Rattle.exact.specs.Writing.{kindOf, contentOf, writtenRecord, AllowedRecord}
-use Rattle.reader.specs.Records.{Record, enter, remove, query, lettersOf, kinds, kindWith, readMark, readEntry, readLicence, nothingDeclared, readQuery, readContent, readRecord}
+use Rattle.reader.specs.Records.{Record, enter, remove, confirm, query, lettersOf, kinds, kindWith, readMark, readEntry, readLicence, nothingDeclared, readQuery, readContent, readRecord}
 use Rattle.grants.proofs.Spelled.{Spelled, spelled-take, spelled-fits, join, part, between}
 use Rattle.grants.proofs.Gives.{Gives, done, after}
 use Rattle.exact.proofs.Letters.{first, second, two-letters, mark-found}
@@ -31,6 +30,8 @@ kind-again St n = refl
 kind-again Li n = refl
 kind-again Wd n = refl
 kind-again Qu n = refl
+kind-again Pl n = refl
+kind-again Cf n = refl
 
 -- a kind whose letters stand at the start is read
 mark-reads : (s : List ℕ) (k : Kind) (n : ℕ) → Spelled s 0 (lettersOf k) n → readMark s ≡ got k n
@@ -54,21 +55,23 @@ module _ (s : List ℕ) where
       done _ _ _ (record { allowed = ok g (f .allowed) (f .deep); spelled = rw e at (join x (f .spelled)) }))
 
   -- an issuer and a grant after the letters w
-  licence-found : (r : Status → Grant → Record) (w : List ℕ) (at : ℕ) → Spelled s 0 w at →
-      ((p : Prin) (g : Grant) → p .0 < speakers → Allowed g → depth g ≤ depths → AllowedRecord (r (Issued p) g)) →
-      ((p : Prin) (g : Grant) → (w ++ (p .0 ∷ [])) ++ written g ≡ writtenRecord (r (Issued p) g)) → Gives (RecordFound s) (readLicence r s at)
+  licence-found : (r : Prin → Grant → Record) (w : List ℕ) (at : ℕ) → Spelled s 0 w at →
+      ((p : Prin) (g : Grant) → p .0 < speakers → Allowed g → depth g ≤ depths → AllowedRecord (r p g)) →
+      ((p : Prin) (g : Grant) → (w ++ (p .0 ∷ [])) ++ written g ≡ writtenRecord (r p g)) → Gives (RecordFound s) (readLicence r s at)
   unfolding readLicence
   licence-found r w at x ok e =
       after _ _ _ _ (upto-found (speakers - 1) s at) (λ p n f.
-      entry-found (r (Issued (record { 0 = p }))) (w ++ (p ∷ [])) n (join x (f .stands)) (λ g. ok (record { 0 = p }) g (let h = f .is in omega arith)) (e (record { 0 = p })))
+      entry-found (r (record { 0 = p })) (w ++ (p ∷ [])) n (join x (f .stands)) (λ g. ok (record { 0 = p }) g (let h = f .is in omega arith)) (e (record { 0 = p })))
 
   -- what follows the letters of a kind
   content-found : (k : Kind) (at : ℕ) → Spelled s 0 (lettersOf k) at → Gives (RecordFound s) (readContent k s at)
   unfolding readContent readQuery writtenRecord AllowedRecord
   content-found Tg at x = entry-found (enter Trusted) (lettersOf Tg) at x (λ g i d. (tt, i, d)) (λ g. refl)
   content-found St at x = entry-found (remove Trusted) (lettersOf St) at x (λ g i d. (tt, i, d)) (λ g. refl)
-  content-found Li at x = licence-found enter (lettersOf Li) at x (λ p g l i d. (l, i, d)) (λ p g. refl)
-  content-found Wd at x = licence-found remove (lettersOf Wd) at x (λ p g l i d. (l, i, d)) (λ p g. refl)
+  content-found Li at x = licence-found (λ p. enter (Issued p)) (lettersOf Li) at x (λ p g l i d. (l, i, d)) (λ p g. refl)
+  content-found Wd at x = licence-found (λ p. remove (Issued p)) (lettersOf Wd) at x (λ p g l i d. (l, i, d)) (λ p g. refl)
+  content-found Pl at x = licence-found (λ p. enter (Provisional p)) (lettersOf Pl) at x (λ p g l i d. (l, i, d)) (λ p g. refl)
+  content-found Cf at x = licence-found confirm (lettersOf Cf) at x (λ p g l i d. (l, i, d)) (λ p g. refl)
   content-found Qu at x =
       after _ _ _ _ (concl-found depths s (readGrant depths s) (grant-found depths s) nothingDeclared at) (λ c n f.
       done _ _ _ (record { allowed = (f .allowed, f .deep); spelled = join x (f .spelled) }))
@@ -84,20 +87,23 @@ module _ (s : List ℕ) where
   entry-reads r g at n a d x = rw (grant-reads depths s g at n a d x)
 
   -- and so with an issuer before it
-  licence-reads : (r : Status → Grant → Record) (p : Prin) (g : Grant) (at n : ℕ) → p .0 < speakers → Allowed g → depth g ≤ depths → Spelled s at (p .0 ∷ written g) n →
-      readLicence r s at ≡ got (r (Issued p) g) n
+  licence-reads : (r : Prin → Grant → Record) (p : Prin) (g : Grant) (at n : ℕ) → p .0 < speakers → Allowed g → depth g ≤ depths → Spelled s at (p .0 ∷ written g) n →
+      readLicence r s at ≡ got (r p g) n
   unfolding readLicence
   licence-reads r p g at n l a d x =
       let y = part (p .0 ∷ []) (written g) x in
-      rw (upto-reads (y .first) (speakers - 1) (omega arith)) (entry-reads (r (Issued p)) g (y .place) n a d (y .second))
+      rw (upto-reads (y .first) (speakers - 1) (omega arith)) (entry-reads (r p) g (y .place) n a d (y .second))
 
   -- what follows the letters of an allowed record is read
   content-reads : (r : Record) (at n : ℕ) → AllowedRecord r → Spelled s at (contentOf r) n → readContent (kindOf r) s at ≡ got r n
   unfolding readContent readQuery AllowedRecord
   content-reads (enter Trusted g) at n a x = entry-reads (enter Trusted) g at n (a .1) (a .2) x
   content-reads (remove Trusted g) at n a x = entry-reads (remove Trusted) g at n (a .1) (a .2) x
-  content-reads (enter (Issued p) g) at n a x = licence-reads enter p g at n (a .0) (a .1) (a .2) x
-  content-reads (remove (Issued p) g) at n a x = licence-reads remove p g at n (a .0) (a .1) (a .2) x
+  content-reads (enter (Issued p) g) at n a x = licence-reads (λ q. enter (Issued q)) p g at n (a .0) (a .1) (a .2) x
+  content-reads (remove (Issued p) g) at n a x = licence-reads (λ q. remove (Issued q)) p g at n (a .0) (a .1) (a .2) x
+  content-reads (enter (Provisional p) g) at n a x = licence-reads (λ q. enter (Provisional q)) p g at n (a .0) (a .1) (a .2) x
+  content-reads (remove (Provisional p) g) at n a x = absurd (a .0)
+  content-reads (confirm p g) at n a x = licence-reads confirm p g at n (a .0) (a .1) (a .2) x
   content-reads (query c) at n a x = rw (concl-reads depths s (readGrant depths s) (grant-reads depths s) nothingDeclared c at n (a .0) (a .1) x)
 
   -- an allowed record that is spelled is read

@@ -4,13 +4,13 @@ use mathlib.Core.Path.{_≡_, refl}
 use mathlib.Core.List.{List, [], _∷_, _++_}
 use mathlib.Core.Logic.{inl}
 use native.Mathlib.Omega.{arith}
-use Rattle.sorts.specs.declared.Status.the-variants.{Trusted, Issued}
+use Rattle.sorts.specs.declared.Status.the-variants.{Trusted, Issued, Provisional}
 use Rattle.rows.specs.Written.{grant, none, property, perm, issue, written}
 use Rattle.rows.specs.Form.{depth}
 use Rattle.rows.specs.Allowed.{Allowed}
 use Rattle.ranges.specs.Bytes.{Outcome, got, refused, byteAt, upto, principal, pack, tag, header}
 use Rattle.grants.specs.Grants.{readProperty, readPacked, readIssue, readConcl, readConds, readWith, readGrant}
-use Rattle.reader.specs.Records.{Record, enter, query, kindWith, readMark, readEntry, readLicence, readQuery, readContent, readRecord}
+use Rattle.reader.specs.Records.{Record, enter, confirm, query, kindWith, readMark, readEntry, readLicence, readQuery, readContent, readRecord}
 use Rattle.exact.specs.Writing.{writtenRecord, AllowedRecord}
 use Rattle.exact.proofs.Exact.{record-read}
 
@@ -33,7 +33,7 @@ pub empty-1 : readRecord [] ≡ refused 1
 unfolding opened
 empty-1 = refl
 
--- the two mark bytes are none of the five: `41 41`
+-- the two mark bytes are no record's letters: `41 41`
 pub refusal-2 : readRecord (65 ∷ 65 ∷ []) ≡ refused 2
 unfolding opened
 refusal-2 = refl
@@ -120,6 +120,21 @@ deepest = refl
 pub licence : readRecord (76 ∷ 73 ∷ 0 ∷ 0 ∷ 0 ∷ 0 ∷ 0 ∷ 2 ∷ 2 ∷ []) ≡ got (enter (Issued (record { 0 = 0 })) (grant 0 0 none (property 2 2))) 9
 unfolding opened
 licence = refl
+
+-- and so has a provisional one: `50 4C 00 00 00 00 00 02 02`
+pub provisional : readRecord (80 ∷ 76 ∷ 0 ∷ 0 ∷ 0 ∷ 0 ∷ 0 ∷ 2 ∷ 2 ∷ []) ≡ got (enter (Provisional (record { 0 = 0 })) (grant 0 0 none (property 2 2))) 9
+unfolding opened
+provisional = refl
+
+-- which is made firm by `43 46 00 00 00 00 00 02 02`
+pub confirmed : readRecord (67 ∷ 70 ∷ 0 ∷ 0 ∷ 0 ∷ 0 ∷ 0 ∷ 2 ∷ 2 ∷ []) ≡ got (confirm (record { 0 = 0 }) (grant 0 0 none (property 2 2))) 9
+unfolding opened
+confirmed = refl
+
+-- its issuer is 00 to 0F too: `43 46 10`
+pub confirmer-16 : readRecord (67 ∷ 70 ∷ 16 ∷ []) ≡ refused 3
+unfolding opened
+confirmer-16 = refl
 
 -- a query has a conclusion: `51 55 00 02 02`
 pub query-read : readRecord (81 ∷ 85 ∷ 0 ∷ 2 ∷ 2 ∷ []) ≡ got (query (property 2 2)) 5

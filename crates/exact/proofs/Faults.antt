@@ -10,16 +10,16 @@ use lib.ListN.{length, getD, length-append, List·getD-append}
 use lib.Seq.{getD-append-seam}
 use lib.Dec.{ltb, leb, eqb}
 use borrow.Author.Tests.{ltb-true, ltb-false, lt-ltb, le-ltb, lt-leb}
-use Rattle.sorts.specs.declared.Status.{Status}
-use Rattle.sorts.specs.declared.Status.the-variants.{Trusted, Issued}
+use Rattle.sorts.specs.declared.Prin.{Prin}
+use Rattle.sorts.specs.declared.Status.the-variants.{Trusted, Issued, Provisional}
 use Rattle.sorts.specs.Numbers.{depths, conditions, packs, principals, properties, speakers}
 use Rattle.rows.specs.Written.{Grant, Conds, Concl}
 use Rattle.ranges.specs.declared.Scope.{Scope}
 use Rattle.reader.specs.declared.records.Kind.{Kind}
-use Rattle.reader.specs.declared.records.Kind.the-variants.{Tg, St, Li, Wd, Qu}
+use Rattle.reader.specs.declared.records.Kind.the-variants.{Tg, St, Li, Wd, Qu, Pl, Cf}
 use Rattle.ranges.specs.Bytes.{Outcome, got, refused, andThen, byteAt, upto, declared, principal, pack, tag, Header, header}
 use Rattle.grants.specs.Grants.{readProperty, readPacked, readIssue, readConcl, readConds, readWith, readGrant}
-use Rattle.reader.specs.Records.{Record, enter, remove, lettersOf, kinds, opens, kindWith, readMark, readEntry, readLicence, nothingDeclared, readQuery, readContent, readRecord}
+use Rattle.reader.specs.Records.{Record, enter, remove, confirm, lettersOf, kinds, opens, kindWith, readMark, readEntry, readLicence, nothingDeclared, readQuery, readContent, readRecord}
 
 -- What is found in c, and in c with the bytes b and y after it. Where c is too short and FF FF follows, which fits nowhere,
 -- another fault is found.
@@ -160,9 +160,9 @@ module _ (c : List ℕ) (b : ℕ) (y : List ℕ) where
   unfolding readEntry
   entry-alike r at h = and-then _ _ _ _ (grant-alike depths at h) (λ g n1 h1. same _ n1 h1)
 
-  licence-alike : (r : Status → Grant → Record) (at : ℕ) → at ≤ length c → Alike c b y Record (readLicence r c at) (readLicence r (c ++ (b ∷ y)) at)
+  licence-alike : (r : Prin → Grant → Record) (at : ℕ) → at ≤ length c → Alike c b y Record (readLicence r c at) (readLicence r (c ++ (b ∷ y)) at)
   unfolding readLicence
-  licence-alike r at h = and-then _ _ _ _ (upto-alike (speakers - 1) at (omega arith) h) (λ p n1 h1. entry-alike (r (Issued (record { 0 = p }))) n1 h1)
+  licence-alike r at h = and-then _ _ _ _ (upto-alike (speakers - 1) at (omega arith) h) (λ p n1 h1. entry-alike (r (record { 0 = p })) n1 h1)
 
   query-alike : (at : ℕ) → at ≤ length c → Alike c b y Record (readQuery c at) (readQuery (c ++ (b ∷ y)) at)
   unfolding readQuery
@@ -173,8 +173,10 @@ module _ (c : List ℕ) (b : ℕ) (y : List ℕ) where
   unfolding readContent
   content-alike Tg at h = entry-alike (enter Trusted) at h
   content-alike St at h = entry-alike (remove Trusted) at h
-  content-alike Li at h = licence-alike enter at h
-  content-alike Wd at h = licence-alike remove at h
+  content-alike Li at h = licence-alike (λ p. enter (Issued p)) at h
+  content-alike Wd at h = licence-alike (λ p. remove (Issued p)) at h
+  content-alike Pl at h = licence-alike (λ p. enter (Provisional p)) at h
+  content-alike Cf at h = licence-alike confirm at h
   content-alike Qu at h = query-alike at h
 
   kind-alike : (ks : List Kind) (m z n : ℕ) → n ≤ length c → Alike c b y Kind (kindWith ks m z n) (kindWith ks m z n)
@@ -189,6 +191,8 @@ no-letter St = refl
 no-letter Li = refl
 no-letter Wd = refl
 no-letter Qu = refl
+no-letter Pl = refl
+no-letter Cf = refl
 
 no-mark : (ks : List Kind) (a n : ℕ) → kindWith ks a 255 n ≡ refused 2
 unfolding kindWith

@@ -2,40 +2,48 @@
 use Prim.Native.Nat.{ℕ, _≤_}
 use mathlib.Core.List.{List, [], _∷_, _++_}
 use Rattle.sorts.specs.declared.Status.{Status}
-use Rattle.sorts.specs.declared.Status.the-variants.{Trusted, Issued}
+use Rattle.sorts.specs.declared.Status.the-variants.{Trusted, Issued, Provisional}
 use Rattle.sorts.specs.Numbers.{depths}
-use Rattle.sorts.specs.Flags.{StatusRange}
+use Rattle.sorts.specs.Flags.{StatusRange, FirmRange}
 use Rattle.rows.specs.Written.{written, writtenConcl}
 use Rattle.rows.specs.Form.{depth, depthConcl}
 use Rattle.rows.specs.Allowed.{Allowed, AllowedConcl}
 use Rattle.reader.specs.declared.records.Kind.{Kind}
-use Rattle.reader.specs.declared.records.Kind.the-variants.{Tg, St, Li, Wd, Qu}
-use Rattle.reader.specs.Records.{Record, enter, remove, query, lettersOf}
+use Rattle.reader.specs.declared.records.Kind.the-variants.{Tg, St, Li, Wd, Qu, Pl, Cf}
+use Rattle.reader.specs.Records.{Record, enter, remove, confirm, query, lettersOf}
 
--- "TG enters a trusted grant, ST strikes it"; "LI issues a licence, WD withdraws it"; "QU queries".
+-- "TG enters a trusted grant, ST strikes it"; "LI issues a licence, WD withdraws it"; "QU queries". Document 02, 5: "Record PL enters a
+-- provisional licence in the form of LI; CF, in the form of WD, makes a provisional one firm. WD removes either kind."
 abbrev pub kindOf : Record → Kind
 kindOf (enter Trusted g) = Tg
 kindOf (remove Trusted g) = St
 kindOf (enter (Issued p) g) = Li
 kindOf (remove (Issued p) g) = Wd
+kindOf (enter (Provisional p) g) = Pl
+kindOf (remove (Provisional p) g) = Wd
+kindOf (confirm p g) = Cf
 kindOf (query c) = Qu
 
 -- What follows the mark: of a licence "an issuer byte 00 to 0F, then a grant"; of a trusted grant the grant.
 abbrev pub writtenStatus : Status → List ℕ
 writtenStatus Trusted = []
 writtenStatus (Issued p) = p .0 ∷ []
+writtenStatus (Provisional p) = p .0 ∷ []
 
 abbrev pub contentOf : Record → List ℕ
 contentOf (enter by g) = writtenStatus by ++ written g
 contentOf (remove by g) = writtenStatus by ++ written g
+contentOf (confirm p g) = writtenStatus (Provisional p) ++ written g
 contentOf (query c) = writtenConcl c
 
 -- The bytes of a record: "Each opens with two letters in ASCII."
 unfoldable pub writtenRecord : Record → List ℕ
 writtenRecord r = lettersOf (kindOf r) ++ contentOf r
 
--- The records that can be read: issuers, and allowed grants and conclusions that are not too deep; a query declares nothing.
+-- The records that can be read: issuers, and allowed grants and conclusions that are not too deep; a query declares nothing. A
+-- licence to remove is said with its issuer, and whether it is firm or provisional is not.
 unfoldable pub AllowedRecord : Record → Type 0
 AllowedRecord (enter by g) = StatusRange by × Allowed g × (depth g ≤ depths)
-AllowedRecord (remove by g) = StatusRange by × Allowed g × (depth g ≤ depths)
+AllowedRecord (remove by g) = FirmRange by × Allowed g × (depth g ≤ depths)
+AllowedRecord (confirm p g) = StatusRange (Provisional p) × Allowed g × (depth g ≤ depths)
 AllowedRecord (query c) = AllowedConcl 0 0 c × (depthConcl c ≤ depths)

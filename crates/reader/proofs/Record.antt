@@ -10,6 +10,7 @@ use lib.ListN.{length, getD, List·getD-append}
 use lib.Dec.{leb}
 use borrow.Author.Tests.{le-leb, lt-leb, leb-true, leb-false}
 use Rattle.sorts.specs.declared.GrantNo.{GrantNo}
+use Rattle.sorts.specs.declared.Prin.{Prin}
 use Rattle.sorts.specs.Numbers.{depths, grants, speakers}
 use Rattle.sorts.proofs.Marks.{grant-is}
 use Rattle.rows.specs.declared.Table.{Table}
@@ -30,21 +31,25 @@ use Rattle.grants.specs.declared.GrantReading.{GrantReading}
 use Rattle.grants.specs.declared.ConclReading.{ConclReading}
 use Rattle.reader.specs.declared.records.Kind.{Kind}
 use Rattle.sorts.specs.declared.Status.{Status}
-use Rattle.sorts.specs.declared.Status.the-variants.{Trusted, Issued}
+use Rattle.sorts.specs.declared.Status.the-variants.{Trusted, Issued, Provisional}
 use Rattle.reader.specs.declared.records.Request.{Request}
-use Rattle.reader.specs.declared.records.Request.the-variants.{Enter, Remove, Query}
+use Rattle.reader.specs.declared.records.Request.the-variants.{Enter, Query}
+use Rattle.reader.specs.declared.records.Revision.{Revision}
+use Rattle.reader.specs.declared.records.Revision.the-variants as revision
+use Rattle.reader.specs.declared.records.Deed.{Deed}
+use Rattle.reader.specs.declared.records.Deed.the-variants as deed
 use Rattle.reader.specs.declared.records.Found.{Found}
 use Rattle.reader.specs.declared.records.Found.the-variants.{Asks, Full, Unknown, Refused}
 use Rattle.reader.specs.declared.records.Reading.{Reading}
 use Rattle.ranges.specs.Bytes.{Outcome, got, refused, andThen, upto}
 use Rattle.grants.specs.Grants.{readGrant, readConcl}
-use Rattle.reader.specs.Records.{Record, enter, remove, query, readMark, readEntry, readLicence, readQuery, readContent, readRecord, nothingDeclared, canonRecord, readCanonical}
-use Rattle.reader.specs.Requests.{numberFound, fits, foundOf, numberedBy, numbers, TurnedBack, Reads}
+use Rattle.reader.specs.Records.{Record, enter, remove, confirm, query, readMark, readEntry, readLicence, readQuery, readContent, readRecord, nothingDeclared, canonRecord, readCanonical}
+use Rattle.reader.specs.Requests.{numberFound, fits, asking, foundOf, numberedBy, numbers, TurnedBack, Reads}
 use Rattle.grants.specs.inner.OnePass.{onOutcome, onGrant, onConcl}
 use Rattle.canon.specs.Canon.{canon, canonConcl}
 use Rattle.canonread.specs.inner.Again.{numForm, numConclForm}
 use Rattle.canonread.proofs.Fuse.{fuse-form, fuse-concl-form}
-use Rattle.reader.specs.inner.OneRecord.{starting, noR, given, entryOf, numEntry, known, removalOf, numRemoval, queryOf, numQuery, numLicence, numContent, numRecord}
+use Rattle.reader.specs.inner.OneRecord.{starting, noR, given, entryOf, numEntry, asked, known, revisionOf, numRevision, queryOf, numQuery, numLicensed, numLicence, numContent, numRecord}
 use Rattle.grants.proofs.Fuse.{FuseG, FuseC}
 
 -- what is promised of a record that was read as o, over a table that shows N
@@ -71,6 +76,33 @@ grant-first r e (refused k) = refl
 concl-first : (o : Outcome Concl) → inForm (andThen o (λ c n. got (query c) n)) ≡ andThen (andThen o (λ c n. got (canonConcl c) n)) (λ c n. got (query c) n)
 concl-first (got c n) = refl
 concl-first (refused k) = refl
+
+-- the record that asks for a revision of a grant, and the one that a deed makes of a licence
+revised : Revision → Grant → Record
+revised (revision.Remove by) g = remove by g
+revised (revision.Confirm p) g = confirm p g
+
+licensed : Deed → Prin → Grant → Record
+licensed deed.Issue p g = enter (Issued p) g
+licensed deed.Provisional p g = enter (Provisional p) g
+licensed deed.Withdraw p g = remove (Issued p) g
+licensed deed.Confirm p g = confirm p g
+
+revised-canon : (v : Revision) (g : Grant) → canonRecord (revised v g) ≡ revised v (canon g)
+unfolding revised
+revised-canon (revision.Remove by) g = refl
+revised-canon (revision.Confirm p) g = refl
+
+-- it finds the grant's number, and gives none
+revised-found : (v : Revision) (N : List Grant) (g : Grant) (n : ℕ) → foundOf N (got (revised v g) n) ≡ asking (asked v) N g n
+unfolding revised foundOf asked
+revised-found (revision.Remove by) N g n = refl
+revised-found (revision.Confirm p) N g n = refl
+
+revised-rows : (v : Revision) (N : List Grant) (g : Grant) (n : ℕ) → numberedBy N (got (revised v g) n) ≡ N
+unfolding revised numberedBy
+revised-rows (revision.Remove by) N g n = refl
+revised-rows (revision.Confirm p) N g n = refl
 
 module _ (t : Table) (f : TableForm t) where
   abbrev N : List Grant
@@ -113,22 +145,21 @@ module _ (t : Table) (f : TableForm t) where
               form = f;
             })
 
-  -- to remove
+  -- to remove or to confirm
 
-  module _ (by : Status) where
+  module _ (v : Revision) where
     -- a grant without a number
-    unknown : (g : Grant) (n : ℕ) → has g N ≡ false → Right N t (got (remove by g) n) (record { table = t; found = Unknown n })
-    unfolding foundOf numberedBy
+    unknown : (g : Grant) (n : ℕ) → has g N ≡ false → Right N t (got (revised v g) n) (record { table = t; found = Unknown n })
     unknown g n e = record {
-      found = sym (ap (λ (b : Bool). cond b (Asks (Remove by (record { 0 = place g N })) n) (Unknown n)) e);
-      rows = refl;
+      found = sym (revised-found v N g n ∙ ap (λ (b : Bool). cond b (Asks (asked v (record { 0 = place g N })) n) (Unknown n)) e);
+      rows = sym (revised-rows v N g n);
       form = f;
     }
 
-    removal-right : (o : Outcome Grant) (R : GrantReading) → FuseG N o R → Right N t (andThen o (λ g n. got (remove by g) n)) (removalOf by t R)
-    unfolding Names foundOf numberedBy known
-    removal-right (refused k) R e = rw e (refused-right k)
-    removal-right (got g n) R u = rw (u .out) (go (u .good) (has g N) refl)
+    revision-right : (o : Outcome Grant) (R : GrantReading) → FuseG N o R → Right N t (andThen o (λ g n. got (revised v g) n)) (revisionOf v t R)
+    unfolding Names known
+    revision-right (refused k) R e = rw e (refused-right k)
+    revision-right (got g n) R u = rw (u .out) (go (u .good) (has g N) refl)
       where
         len : t .count ≡ length N
         len = form-shown t f .counted
@@ -144,13 +175,13 @@ module _ (t : Table) (f : TableForm t) where
         there : has g N ≡ true → R .numbering .full ≡ false → (u .no .0 < length N) × (getD N (u .no .0) noGrant ≡ g)
         there e q = subst (λ (M : List Grant). (u .no .0 < length M) × (getD M (u .no .0) noGrant ≡ g)) (same e) (u .names q)
 
-        within : has g N ≡ true → R .numbering .full ≡ false → Right N t (got (remove by g) n) (record { table = t; found = Asks (Remove by (u .no)) n })
+        within : has g N ≡ true → R .numbering .full ≡ false → Right N t (got (revised v g) n) (record { table = t; found = Asks (asked v (u .no)) n })
         within e q =
             let m = there e q in
             let no : u .no ≡ record { 0 = place g N } = grant-is (u .no) (record { 0 = place g N }) (sym (place-is g N (form-shown t f .distinct) (u .no .0) (m .0) (m .1))) in
             record {
-              found = ap (λ (i : GrantNo). Asks (Remove by i) n) no ∙ sym (ap (λ (b : Bool). cond b (Asks (Remove by (record { 0 = place g N })) n) (Unknown n)) e);
-              rows = refl;
+              found = ap (λ (i : GrantNo). Asks (asked v i) n) no ∙ sym (revised-found v N g n ∙ ap (λ (b : Bool). cond b (Asks (asked v (record { 0 = place g N })) n) (Unknown n)) e);
+              rows = sym (revised-rows v N g n);
               form = f;
             }
 
@@ -162,14 +193,14 @@ module _ (t : Table) (f : TableForm t) where
             has-in g N (u .no .0) (omega (arith, len)) (sym (ap (λ (M : List Grant). getD M (u .no .0) noGrant) (x .is) ∙ List·getD-append N (x .more) noGrant (u .no .0) (omega (arith, len))) ∙ m .1)
 
         below : (b : Bool) → has g N ≡ b → R .numbering .full ≡ false → (d : Bool) → leb (t .count) (u .no .0) ≡ d →
-            Right N t (got (remove by g) n) (record { table = t; found = cond d (Unknown n) (Asks (Remove by (u .no)) n) })
+            Right N t (got (revised v g) n) (record { table = t; found = cond d (Unknown n) (Asks (asked v (u .no)) n) })
         below true e q true h = let l = leb-true (t .count) (u .no .0) h in let m = there e q .0 in absurd (omega (arith, len))
         below true e q false h = within e q
         below false e q true h = unknown g n e
         below false e q false h = let l = leb-false (t .count) (u .no .0) h in absurd (no-true (sym e ∙ had false e q l))
 
         go : Good (R .numbering) (number g N) → (b : Bool) → has g N ≡ b →
-            Right N t (got (remove by g) n) (record { table = t; found = known (t .count) (R .numbering .full) by (u .no) n })
+            Right N t (got (revised v g) n) (record { table = t; found = known (t .count) (R .numbering .full) v (u .no) n })
         go (tied q S) b e = rw q (below b e q (leb (t .count) (u .no .0)) refl)
         go (over q l c) true e = let h = ap length (same e) in absurd (omega (arith, len, small))
         go (over q l c) false e = rw q (unknown g n e)
@@ -215,28 +246,35 @@ module _ (t : Table) (f : TableForm t) where
         rw (grant-first (enter by) (λ g. refl) (readGrant depths s at))
         (entry-right by (andThen (readGrant depths s at) (λ g n. got (canon g) n)) (numForm s at (starting t)) (grant-fused at))
 
-    removal-content : (by : Status) (at : ℕ) → Right N t (inForm (readEntry (remove by) s at)) (numRemoval by s at t)
-    unfolding readEntry numRemoval
-    removal-content by at =
-        rw (grant-first (remove by) (λ g. refl) (readGrant depths s at))
-        (removal-right by (andThen (readGrant depths s at) (λ g n. got (canon g) n)) (numForm s at (starting t)) (grant-fused at))
+    revision-content : (v : Revision) (at : ℕ) → Right N t (inForm (readEntry (revised v) s at)) (numRevision v s at t)
+    unfolding readEntry numRevision
+    revision-content v at =
+        rw (grant-first (revised v) (revised-canon v) (readGrant depths s at))
+        (revision-right v (andThen (readGrant depths s at) (λ g n. got (canon g) n)) (numForm s at (starting t)) (grant-fused at))
 
-    licence-right : (enters : Bool) (at : ℕ) → Right N t (inForm (readLicence (cond enters enter remove) s at)) (numLicence enters s at t)
+    licensed-content : (d : Deed) (p : Prin) (at : ℕ) → Right N t (inForm (readEntry (licensed d p) s at)) (numLicensed d p s at t)
+    unfolding licensed revised numLicensed
+    licensed-content deed.Issue p at = entry-content (Issued p) at
+    licensed-content deed.Provisional p at = entry-content (Provisional p) at
+    licensed-content deed.Withdraw p at = revision-content (revision.Remove (Issued p)) at
+    licensed-content deed.Confirm p at = revision-content (revision.Confirm p) at
+
+    licence-right : (d : Deed) (at : ℕ) → Right N t (inForm (readLicence (licensed d) s at)) (numLicence d s at t)
     unfolding readLicence numLicence
-    licence-right enters at = go enters (upto (speakers - 1) s at)
+    licence-right d at = go (upto (speakers - 1) s at)
       where
-        go : (b : Bool) (o : Outcome ℕ) → Right N t (inForm (andThen o (λ p n. readEntry (cond b enter remove (Issued (record { 0 = p }))) s n)))
-            (onOutcome o (noR t) (λ p n. cond b (numEntry (Issued (record { 0 = p })) s n t) (numRemoval (Issued (record { 0 = p })) s n t)))
-        go b (refused k) = refused-right k
-        go true (got p n) = entry-content (Issued (record { 0 = p })) n
-        go false (got p n) = removal-content (Issued (record { 0 = p })) n
+        go : (o : Outcome ℕ) → Right N t (inForm (andThen o (λ p n. readEntry (licensed d (record { 0 = p })) s n))) (onOutcome o (noR t) (λ p n. numLicensed d (record { 0 = p }) s n t))
+        go (refused k) = refused-right k
+        go (got p n) = licensed-content d (record { 0 = p }) n
 
     content-right : (k : Kind) (at : ℕ) → Right N t (inForm (readContent k s at)) (numContent k s at t)
-    unfolding readContent readQuery numContent numQuery
+    unfolding readContent readQuery numContent numQuery licensed revised
     content-right Kind.Tg at = entry-content Trusted at
-    content-right Kind.St at = removal-content Trusted at
-    content-right Kind.Li at = licence-right true at
-    content-right Kind.Wd at = licence-right false at
+    content-right Kind.St at = revision-content (revision.Remove Trusted) at
+    content-right Kind.Li at = licence-right deed.Issue at
+    content-right Kind.Wd at = licence-right deed.Withdraw at
+    content-right Kind.Pl at = licence-right deed.Provisional at
+    content-right Kind.Cf at = licence-right deed.Confirm at
     content-right Kind.Qu at =
         rw (concl-first (readConcl (readGrant depths s) nothingDeclared s at))
         (query-right (andThen (readConcl (readGrant depths s) nothingDeclared s at) (λ c n. got (canonConcl c) n)) (numConclForm nothingDeclared s at (starting t))
@@ -261,10 +299,10 @@ entry-keeps by t R = go (R .out) (R .numbering .full)
     go (grant.Got g n) false e = absurd (no-true (sym e))
     go (grant.Refused k) b e = refl
 
-removal-keeps : (by : Status) (t : Table) (R : GrantReading) → Keeps t (removalOf by t R)
-removal-keeps by t R = go (R .out)
+revision-keeps : (v : Revision) (t : Table) (R : GrantReading) → Keeps t (revisionOf v t R)
+revision-keeps v t R = go (R .out)
   where
-    go : (o : GrantOut) → Keeps t (onGrant o (noR t) (λ g n. record { table = t; found = known (t .count) (R .numbering .full) by g n }))
+    go : (o : GrantOut) → Keeps t (onGrant o (noR t) (λ g n. record { table = t; found = known (t .count) (R .numbering .full) v g n }))
     go (grant.Got g n) e = refl
     go (grant.Refused k) e = refl
 
@@ -277,21 +315,29 @@ query-keeps t R = go (R .out) (R .numbering .full)
     go (concl.Got c n) false e = absurd (no-true (sym e))
     go (concl.Refused k) b e = refl
 
-licence-keeps : (enters : Bool) (s : List ℕ) (at : ℕ) (t : Table) → Keeps t (numLicence enters s at t)
-unfolding numLicence numEntry numRemoval
-licence-keeps enters s at t = go enters (upto (speakers - 1) s at)
+licensed-keeps : (d : Deed) (p : Prin) (s : List ℕ) (at : ℕ) (t : Table) → Keeps t (numLicensed d p s at t)
+unfolding numLicensed numEntry numRevision
+licensed-keeps deed.Issue p s at t e = entry-keeps (Issued p) t (numForm s at (starting t)) e
+licensed-keeps deed.Provisional p s at t e = entry-keeps (Provisional p) t (numForm s at (starting t)) e
+licensed-keeps deed.Withdraw p s at t e = revision-keeps (revision.Remove (Issued p)) t (numForm s at (starting t)) e
+licensed-keeps deed.Confirm p s at t e = revision-keeps (revision.Confirm p) t (numForm s at (starting t)) e
+
+licence-keeps : (d : Deed) (s : List ℕ) (at : ℕ) (t : Table) → Keeps t (numLicence d s at t)
+unfolding numLicence
+licence-keeps d s at t = go (upto (speakers - 1) s at)
   where
-    go : (b : Bool) (o : Outcome ℕ) → Keeps t (onOutcome o (noR t) (λ p n. cond b (numEntry (Issued (record { 0 = p })) s n t) (numRemoval (Issued (record { 0 = p })) s n t)))
-    go b (refused k) e = refl
-    go true (got p n) e = entry-keeps (Issued (record { 0 = p })) t (numForm s n (starting t)) e
-    go false (got p n) e = removal-keeps (Issued (record { 0 = p })) t (numForm s n (starting t)) e
+    go : (o : Outcome ℕ) → Keeps t (onOutcome o (noR t) (λ p n. numLicensed d (record { 0 = p }) s n t))
+    go (refused k) e = refl
+    go (got p n) e = licensed-keeps d (record { 0 = p }) s n t e
 
 content-keeps : (k : Kind) (s : List ℕ) (at : ℕ) (t : Table) → Keeps t (numContent k s at t)
-unfolding numContent numEntry numRemoval numQuery
+unfolding numContent numEntry numRevision numQuery
 content-keeps Kind.Tg s at t e = entry-keeps Trusted t (numForm s at (starting t)) e
-content-keeps Kind.St s at t e = removal-keeps Trusted t (numForm s at (starting t)) e
-content-keeps Kind.Li s at t e = licence-keeps true s at t e
-content-keeps Kind.Wd s at t e = licence-keeps false s at t e
+content-keeps Kind.St s at t e = revision-keeps (revision.Remove Trusted) t (numForm s at (starting t)) e
+content-keeps Kind.Li s at t e = licence-keeps deed.Issue s at t e
+content-keeps Kind.Wd s at t e = licence-keeps deed.Withdraw s at t e
+content-keeps Kind.Pl s at t e = licence-keeps deed.Provisional s at t e
+content-keeps Kind.Cf s at t e = licence-keeps deed.Confirm s at t e
 content-keeps Kind.Qu s at t e = query-keeps t (numConclForm nothingDeclared s at (starting t)) e
 
 record-keeps : (s : List ℕ) (t : Table) → Keeps t (numRecord s t)
@@ -314,6 +360,7 @@ module _ (k : ℕ) where
   found-number N (refused j) = (λ h. let d : j ≡ k = cc in d, λ h. ap some h)
   found-number N (got (enter by g) n) = asked-or (fits (number g N)) _ n (Full n) 6 refl
   found-number N (got (remove by g) n) = asked-or (has g N) _ n (Unknown n) 7 refl
+  found-number N (got (confirm p g) n) = asked-or (has g N) _ n (Unknown n) 7 refl
   found-number N (got (query c) n) = asked-or (fits (numberConcl c N)) _ n (Full n) 6 refl
 
 -- The promise, by whether the count is one of a book.

@@ -1,25 +1,29 @@
--- Document 01, "Records", and refusals 1 and 2 at the two mark bytes.
+-- Document 01, "Records", with those of document 02, 5; and refusals 1 and 2 at the two mark bytes.
 use Prim.Native.Nat.{ℕ, _-_}
 use mathlib.Core.Bool.{Bool, _&&_, cond}
 use mathlib.Core.List.{List, [], _∷_}
 use lib.ListN.{getD}
 use lib.Dec.{eqb}
+use Rattle.sorts.specs.declared.Prin.{Prin}
 use Rattle.sorts.specs.declared.Status.{Status}
-use Rattle.sorts.specs.declared.Status.the-variants.{Trusted, Issued}
+use Rattle.sorts.specs.declared.Status.the-variants.{Trusted, Issued, Provisional}
 use Rattle.sorts.specs.Numbers.{depths, speakers}
 use Rattle.rows.specs.Written.{Grant, Concl}
 use Rattle.ranges.specs.declared.Scope.{Scope}
 use Rattle.reader.specs.declared.records.Kind.{Kind}
-use Rattle.reader.specs.declared.records.Kind.the-variants.{Tg, St, Li, Wd, Qu}
+use Rattle.reader.specs.declared.records.Kind.the-variants.{Tg, St, Li, Wd, Qu, Pl, Cf}
 use Rattle.ranges.specs.Bytes.{Outcome, got, refused, andThen, byteAt, upto}
 use Rattle.grants.specs.Grants.{readGrant, readConcl}
 use Rattle.canon.specs.Canon.{canon, canonConcl}
 
 -- "TG enters a trusted grant, ST strikes it: a grant follows. LI issues a licence, WD withdraws it: an issuer byte 00 to 0F,
--- then a grant. QU queries: one closed conclusion follows". So a record enters a grant with a status, removes one, or asks.
+-- then a grant. QU queries: one closed conclusion follows". Document 02, 5: "Record PL enters a provisional licence in the form of LI;
+-- CF, in the form of WD, makes a provisional one firm. WD removes either kind." So a record enters a grant with a status, removes one,
+-- confirms a principal's provisional licence, or asks; to remove a principal's licence is to remove it whether firm or provisional.
 pub data Record : Type 0 where
   enter : Status → Grant → Record
   remove : Status → Grant → Record
+  confirm : Prin → Grant → Record
   query : Concl → Record
 
 -- "Each opens with two letters in ASCII."
@@ -29,16 +33,19 @@ lettersOf St = 83 ∷ 84 ∷ []
 lettersOf Li = 76 ∷ 73 ∷ []
 lettersOf Wd = 87 ∷ 68 ∷ []
 lettersOf Qu = 81 ∷ 85 ∷ []
+lettersOf Pl = 80 ∷ 76 ∷ []
+lettersOf Cf = 67 ∷ 70 ∷ []
 
--- all kinds, in the order in which the document lists them
+-- all kinds, in the order in which the documents list them
 abbrev pub kinds : List Kind
-kinds = Tg ∷ St ∷ Li ∷ Wd ∷ Qu ∷ []
+kinds = Tg ∷ St ∷ Li ∷ Wd ∷ Qu ∷ Pl ∷ Cf ∷ []
 
 -- whether these are a kind's letters
 abbrev pub opens : Kind → ℕ → ℕ → Bool
 opens k a b = eqb a (getD (lettersOf k) 0 0) && eqb b (getD (lettersOf k) 1 0)
 
--- The first of some kinds that has the letters a and b, and the place n after them; 2: "the two mark bytes are none of the five".
+-- The first of some kinds that has the letters a and b, and the place n after them; 2: "the two mark bytes are none of" the letters,
+-- to which document 02, 5 adds "the letters of each record added here or later".
 unfoldable pub kindWith : List Kind → ℕ → ℕ → ℕ → Outcome Kind
 kindWith [] a b n = refused 2
 kindWith (k ∷ ks) a b n = cond (opens k a b) (got k n) (kindWith ks a b n)
@@ -52,8 +59,8 @@ unfoldable pub readEntry : (Grant → Record) → List ℕ → ℕ → Outcome R
 readEntry r s at = andThen (readGrant depths s at) (λ g n. got (r g) n)
 
 -- An issuer byte and a grant after the mark.
-unfoldable pub readLicence : (Status → Grant → Record) → List ℕ → ℕ → Outcome Record
-readLicence r s at = andThen (upto (speakers - 1) s at) (λ p n. readEntry (r (Issued (record { 0 = p }))) s n)
+unfoldable pub readLicence : (Prin → Grant → Record) → List ℕ → ℕ → Outcome Record
+readLicence r s at = andThen (upto (speakers - 1) s at) (λ p n. readEntry (r (record { 0 = p })) s n)
 
 -- In a query "every variable is undeclared".
 abbrev pub nothingDeclared : Scope
@@ -67,9 +74,11 @@ readQuery s at = andThen (readConcl (readGrant depths s) nothingDeclared s at) (
 unfoldable pub readContent : Kind → List ℕ → ℕ → Outcome Record
 readContent Tg s at = readEntry (enter Trusted) s at
 readContent St s at = readEntry (remove Trusted) s at
-readContent Li s at = readLicence enter s at
-readContent Wd s at = readLicence remove s at
+readContent Li s at = readLicence (λ p. enter (Issued p)) s at
+readContent Wd s at = readLicence (λ p. remove (Issued p)) s at
 readContent Qu s at = readQuery s at
+readContent Pl s at = readLicence (λ p. enter (Provisional p)) s at
+readContent Cf s at = readLicence confirm s at
 
 -- A record as it is written, which may be followed by others, and its length.
 unfoldable pub readRecord : List ℕ → Outcome Record
@@ -80,6 +89,7 @@ readRecord s = andThen (readMark s) (λ k n. readContent k s n)
 abbrev pub canonRecord : Record → Record
 canonRecord (enter by g) = enter by (canon g)
 canonRecord (remove by g) = remove by (canon g)
+canonRecord (confirm p g) = confirm p (canon g)
 canonRecord (query c) = query (canonConcl c)
 
 -- What a record asks and its length: "numbers follow that form, and the plain machine's grants .. are in it. Condition counts are

@@ -1,5 +1,5 @@
 -- What the reader answers of a record, and how it numbers the record's grants. Document 01: "TG, LI and QU give numbers to
--- new grants. ST and WD give none."
+-- new grants. ST and WD give none." Document 02, 5: "PL appends its new grants to N as LI does", and CF has the form of WD.
 use Prim.Native.Nat.{ℕ, _≤_, _<_}
 use mathlib.Core.Path.{_≡_}
 use mathlib.Core.Bool.{Bool, true, false, cond}
@@ -13,13 +13,15 @@ use Rattle.rows.specs.declared.Table.{Table}
 use Rattle.rows.specs.Written.{Grant}
 use Rattle.rows.specs.Numbering.{place, has, number, numberConcl}
 use Rattle.rows.specs.Form.{conclOf, rowsOut, TableForm}
+use Rattle.sorts.specs.declared.GrantNo.{GrantNo}
 use Rattle.sorts.specs.declared.Status.{Status}
-use Rattle.reader.specs.declared.records.Request.the-variants.{Enter, Remove, Query}
+use Rattle.reader.specs.declared.records.Request.{Request}
+use Rattle.reader.specs.declared.records.Request.the-variants.{Enter, Remove, Confirm, Query}
 use Rattle.reader.specs.declared.records.Found.{Found}
 use Rattle.reader.specs.declared.records.Found.the-variants.{Asks, Full, Unknown, Refused}
 use Rattle.reader.specs.declared.records.Reading.{Reading}
 use Rattle.ranges.specs.Bytes.{Outcome, got, refused}
-use Rattle.reader.specs.Records.{Record, enter, remove, query, readCanonical}
+use Rattle.reader.specs.Records.{Record, enter, remove, confirm, query, readCanonical}
 use Rattle.reader.specs.inner.OneRecord.{numRecord}
 
 -- "If an answer is an enum, a definition gives this paper's number and values for each of its cases." What the reader finds is a
@@ -44,15 +46,16 @@ fits N = leb (length N) grants
 abbrev pub entering : Status → List Grant → Grant → ℕ → Found
 entering by N g n = cond (fits (number g N)) (Asks (Enter by (record { 0 = place g (number g N) })) n) (Full n)
 
--- To remove g, where it has a number.
-abbrev pub removing : Status → List Grant → Grant → ℕ → Found
-removing by N g n = cond (has g N) (Asks (Remove by (record { 0 = place g N })) n) (Unknown n)
+-- To ask q of g, where it has a number.
+abbrev pub asking : (GrantNo → Request) → List Grant → Grant → ℕ → Found
+asking q N g n = cond (has g N) (Asks (q (record { 0 = place g N })) n) (Unknown n)
 
 -- What the reader finds where the grants N are numbered.
 unfoldable pub foundOf : List Grant → Outcome Record → Found
 foundOf N (refused k) = Refused k
 foundOf N (got (enter by g) n) = entering by N g n
-foundOf N (got (remove by g) n) = removing by N g n
+foundOf N (got (remove by g) n) = asking (Remove by) N g n
+foundOf N (got (confirm p g) n) = asking (Confirm p) N g n
 foundOf N (got (query c) n) = cond (fits (numberConcl c N)) (Asks (Query (conclOf (numberConcl c N) c)) n) (Full n)
 
 -- The grants numbered after it.
@@ -60,23 +63,26 @@ unfoldable pub numberedBy : List Grant → Outcome Record → List Grant
 numberedBy N (refused k) = N
 numberedBy N (got (enter by g) n) = cond (fits (number g N)) (number g N) N
 numberedBy N (got (remove by g) n) = N
+numberedBy N (got (confirm p g) n) = N
 numberedBy N (got (query c) n) = cond (fits (numberConcl c N)) (numberConcl c N) N
 
 -- Whether what was found gives numbers.
 abbrev pub numbers : Found → Bool
 numbers (Asks (Enter by g) n) = true
 numbers (Asks (Remove by g) n) = false
+numbers (Asks (Confirm p g) n) = false
 numbers (Asks (Query c) n) = true
 numbers (Full n) = false
 numbers (Unknown n) = false
 numbers (Refused k) = false
 
 -- When a record is turned back where the grants N are numbered, by what was read: the fault's own number; 6 "the grants that the
--- record would number and those in N exceed 64"; 7 for the removal of a grant that has no number.
+-- record would number and those in N exceed 64"; 7 for the removal or the confirming of a grant that has no number.
 abbrev pub TurnedBack : List Grant → Outcome Record → ℕ → Type 0
 TurnedBack N (refused j) k = j ≡ k
 TurnedBack N (got (enter by g) n) k = (fits (number g N) ≡ false) × (k ≡ 6)
 TurnedBack N (got (remove by g) n) k = (has g N ≡ false) × (k ≡ 7)
+TurnedBack N (got (confirm p g) n) k = (has g N ≡ false) × (k ≡ 7)
 TurnedBack N (got (query c) n) k = (fits (numberConcl c N) ≡ false) × (k ≡ 6)
 
 -- THE PROMISE of the reader, over any table: a count above 64 is out of form, 9; over a table in form the answer and the rows,

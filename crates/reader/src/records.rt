@@ -15,7 +15,7 @@ ghost use Prim.Native.Nat.{_≤_};
 ghost use Rattle.sorts.specs.Numbers.{grants};
 ghost use Rattle.reader.specs.Records.{lettersOf, kinds, opens, kindWith, readMark};
 ghost use Rattle.reader.specs.Requests.{Reads};
-ghost use Rattle.reader.specs.inner.OneRecord.{starting, asMark, noR, given, numEntry, known, numRemoval, numQuery, numLicence, numContent};
+ghost use Rattle.reader.specs.inner.OneRecord.{starting, asMark, noR, given, numEntry, asked, known, numRevision, numQuery, numLicensed, numLicence, numContent};
 
 // The last principal who may issue.
 const LAST_ISSUER: u8 = Prin::SPEAKERS - 1;
@@ -27,6 +27,8 @@ pub enum Kind {
     Li,
     Wd,
     Qu,
+    Pl,
+    Cf,
 }
 
 // A record's kind with the place after its mark, or the number of the refusal.
@@ -35,15 +37,31 @@ pub enum MarkOut {
     No(u8),
 }
 
-// What a record asks, with each grant as its number: to enter or to remove a trusted grant or a licence, or an answer.
+// What a record asks, with each grant as its number: to enter or to remove a trusted grant or a licence, to make a principal's
+// provisional licence firm, or an answer.
 pub enum Request {
     Enter(Status, GrantNo),
     Remove(Status, GrantNo),
+    Confirm(Prin, GrantNo),
     Query(Concl),
 }
 
-// What the reader found: a request; a record whose new grants find no numbers left; a record that removes what has no
-// number; each with the record's length. Or the number of the refusal.
+// A revision of what stands, whose grant must have a number: its removal, or that a principal's provisional licence becomes firm.
+enum Revision {
+    Remove(Status),
+    Confirm(Prin),
+}
+
+// What a record does with a licence: it enters a firm or a provisional one, withdraws one, or makes a provisional one firm.
+enum Deed {
+    Issue,
+    Provisional,
+    Withdraw,
+    Confirm,
+}
+
+// What the reader found: a request; a record whose new grants find no numbers left; a record that removes or confirms what
+// has no number; each with the record's length. Or the number of the refusal.
 pub enum Found {
     Asks(Request, usize),
     Full(usize),
@@ -79,8 +97,12 @@ impl Kind {
 
     pub const QU: [u8; 2] = *b"QU";
 
+    pub const PL: [u8; 2] = *b"PL";
+
+    pub const CF: [u8; 2] = *b"CF";
+
     // How many kinds there are.
-    pub const COUNT: usize = 5;
+    pub const COUNT: usize = 7;
 
     // The letters of a kind.
     pub fn letters(self) -> [u8; 2]
@@ -92,6 +114,8 @@ impl Kind {
             Kind::Li => Kind::LI,
             Kind::Wd => Kind::WD,
             Kind::Qu => Kind::QU,
+            Kind::Pl => Kind::PL,
+            Kind::Cf => Kind::CF,
         }
     }
 
@@ -108,7 +132,15 @@ impl Kind {
 fn kind_of(a: u8, b: u8, n: usize) -> MarkOut
     ensures { λ r. ⌜ r ≡ asMark (kindWith kinds a b n) ⌝ }
 {
-    let all = [Kind::Tg, Kind::St, Kind::Li, Kind::Wd, Kind::Qu];
+    let all = [
+        Kind::Tg,
+        Kind::St,
+        Kind::Li,
+        Kind::Wd,
+        Kind::Qu,
+        Kind::Pl,
+        Kind::Cf,
+    ];
     let mut i = 0;
     while i < Kind::COUNT {
         let k = all[i];
@@ -173,9 +205,19 @@ fn read_entry(s: &[u8], at: usize, by: Status, t: Table) -> Reading
     }
 }
 
-// What is found of a grant to remove, where `count` numbers were given before it was numbered: it must have one of them.
-fn known(count: usize, full: bool, by: Status, no: GrantNo, n: usize) -> Found
-    ensures { λ r. ⌜ r ≡ known count full by no n ⌝ }
+// The request to revise how grant `no` stands.
+fn asked(v: Revision, no: GrantNo) -> Request
+    ensures { λ q. ⌜ q ≡ asked v no ⌝ }
+{
+    match v {
+        Revision::Remove(by) => Request::Remove(by, no),
+        Revision::Confirm(p) => Request::Confirm(p, no),
+    }
+}
+
+// What is found of a grant to revise, where `count` numbers were given before it was numbered: it must have one of them.
+fn known(count: usize, full: bool, v: Revision, no: GrantNo, n: usize) -> Found
+    ensures { λ r. ⌜ r ≡ known count full v no n ⌝ }
 {
     if full {
         return Found::Unknown(n);
@@ -183,13 +225,14 @@ fn known(count: usize, full: bool, by: Status, no: GrantNo, n: usize) -> Found
     if count <= no.0 as usize {
         return Found::Unknown(n);
     }
-    Found::Asks(Request::Remove(by, no), n)
+    let q = asked(v, no);
+    Found::Asks(q, n)
 }
 
-// A grant to remove; nothing is numbered.
-fn read_removal(s: &[u8], at: usize, by: Status, t: Table) -> Reading
+// A grant to revise; nothing is numbered.
+fn read_revision(s: &[u8], at: usize, v: Revision, t: Table) -> Reading
     requires { ⌜ t .count ≤ grants ⌝ }
-    ensures { λ r. ⌜ r ≡ numRemoval by (now (s .entry)) at t ⌝ }
+    ensures { λ r. ⌜ r ≡ numRevision v (now (s .entry)) at t ⌝ }
 {
     let g = canonread::read_grant(s, at, start(t));
     let u = g.numbering;
@@ -198,7 +241,7 @@ fn read_removal(s: &[u8], at: usize, by: Status, t: Table) -> Reading
         GrantOut::Refused(k) => refused(t, k),
         GrantOut::Got(no, n) => Reading {
             table: t,
-            found: known(t.count, u.full, by, no, n),
+            found: known(t.count, u.full, v, no, n),
         },
     }
 }
@@ -218,21 +261,27 @@ fn read_query(s: &[u8], at: usize, t: Table) -> Reading
     }
 }
 
-// What follows the mark of a licence to issue or to withdraw: the issuer and the grant.
-fn read_licence(s: &[u8], at: usize, enters: bool, t: Table) -> Reading
+// The grant of a licence of p, after the issuer byte.
+fn read_licensed(s: &[u8], at: usize, d: Deed, p: Prin, t: Table) -> Reading
     requires { ⌜ t .count ≤ grants ⌝ }
-    ensures { λ r. ⌜ r ≡ numLicence enters (now (s .entry)) at t ⌝ }
+    ensures { λ r. ⌜ r ≡ numLicensed d p (now (s .entry)) at t ⌝ }
+{
+    match d {
+        Deed::Issue => read_entry(s, at, Status::Issued(p), t),
+        Deed::Provisional => read_entry(s, at, Status::Provisional(p), t),
+        Deed::Withdraw => read_revision(s, at, Revision::Remove(Status::Issued(p)), t),
+        Deed::Confirm => read_revision(s, at, Revision::Confirm(p), t),
+    }
+}
+
+// What follows the mark of a record on a licence: the issuer and the grant.
+fn read_licence(s: &[u8], at: usize, d: Deed, t: Table) -> Reading
+    requires { ⌜ t .count ≤ grants ⌝ }
+    ensures { λ r. ⌜ r ≡ numLicence d (now (s .entry)) at t ⌝ }
 {
     match ranges::read_upto(LAST_ISSUER, s, at) {
         Got::No(k) => refused(t, k),
-        Got::Byte(p, n) => {
-            let by = Status::Issued(Prin(p));
-            if enters {
-                read_entry(s, n, by, t)
-            } else {
-                read_removal(s, n, by, t)
-            }
-        }
+        Got::Byte(p, n) => read_licensed(s, n, d, Prin(p), t),
     }
 }
 
@@ -243,10 +292,12 @@ fn read_content(k: Kind, s: &[u8], at: usize, t: Table) -> Reading
 {
     match k {
         Kind::Tg => read_entry(s, at, Status::Trusted, t),
-        Kind::St => read_removal(s, at, Status::Trusted, t),
-        Kind::Li => read_licence(s, at, true, t),
-        Kind::Wd => read_licence(s, at, false, t),
+        Kind::St => read_revision(s, at, Revision::Remove(Status::Trusted), t),
+        Kind::Li => read_licence(s, at, Deed::Issue, t),
+        Kind::Wd => read_licence(s, at, Deed::Withdraw, t),
         Kind::Qu => read_query(s, at, t),
+        Kind::Pl => read_licence(s, at, Deed::Provisional, t),
+        Kind::Cf => read_licence(s, at, Deed::Confirm, t),
     }
 }
 

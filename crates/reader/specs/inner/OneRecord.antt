@@ -1,22 +1,27 @@
 -- Reading a record over a table, as the code does it.
 use Prim.Native.Nat.{ℕ, _-_}
 use mathlib.Core.List.{List}
-use mathlib.Core.Bool.{Bool, true, false, cond}
+use mathlib.Core.Bool.{Bool, false, cond}
 use lib.Dec.{leb}
 use Rattle.sorts.specs.declared.GrantNo.{GrantNo}
+use Rattle.sorts.specs.declared.Prin.{Prin}
 use Rattle.sorts.specs.Numbers.{speakers}
 use Rattle.rows.specs.declared.Table.{Table}
 use Rattle.rows.specs.declared.Numbering.{Numbering}
 use Rattle.grants.specs.declared.GrantReading.{GrantReading}
 use Rattle.grants.specs.declared.ConclReading.{ConclReading}
 use Rattle.reader.specs.declared.records.Kind.{Kind}
-use Rattle.reader.specs.declared.records.Kind.the-variants.{Tg, St, Li, Wd, Qu}
+use Rattle.reader.specs.declared.records.Kind.the-variants.{Tg, St, Li, Wd, Qu, Pl, Cf}
 use Rattle.reader.specs.declared.records.MarkOut.{MarkOut}
 use Rattle.reader.specs.declared.records.MarkOut.the-variants as mark
 use Rattle.sorts.specs.declared.Status.{Status}
-use Rattle.sorts.specs.declared.Status.the-variants.{Trusted, Issued}
+use Rattle.sorts.specs.declared.Status.the-variants.{Trusted, Issued, Provisional}
 use Rattle.reader.specs.declared.records.Request.{Request}
-use Rattle.reader.specs.declared.records.Request.the-variants.{Enter, Remove, Query}
+use Rattle.reader.specs.declared.records.Request.the-variants.{Enter, Remove, Confirm, Query}
+use Rattle.reader.specs.declared.records.Revision.{Revision}
+use Rattle.reader.specs.declared.records.Revision.the-variants as revision
+use Rattle.reader.specs.declared.records.Deed.{Deed}
+use Rattle.reader.specs.declared.records.Deed.the-variants as deed
 use Rattle.reader.specs.declared.records.Found.{Found}
 use Rattle.reader.specs.declared.records.Found.the-variants.{Asks, Full, Unknown, Refused}
 use Rattle.reader.specs.declared.records.Reading.{Reading}
@@ -46,15 +51,20 @@ entryOf by t r = onGrant (r .out) (noR t) (λ g n. given t (r .numbering) (Enter
 unfoldable pub numEntry : Status → List ℕ → ℕ → Table → Reading
 numEntry by s at t = entryOf by t (numForm s at (starting t))
 
--- a removal where so many numbers were given before: of a grant that has one of them
-unfoldable pub known : ℕ → Bool → Status → GrantNo → ℕ → Found
-known count full by g n = cond full (Unknown n) (cond (leb count (g .0)) (Unknown n) (Asks (Remove by g) n))
+-- the request for a revision of what stands
+unfoldable pub asked : Revision → GrantNo → Request
+asked (revision.Remove by) g = Remove by g
+asked (revision.Confirm p) g = Confirm p g
 
-abbrev pub removalOf : Status → Table → GrantReading → Reading
-removalOf by t r = onGrant (r .out) (noR t) (λ g n. record { table = t; found = known (t .count) (r .numbering .full) by g n })
+-- a revision where so many numbers were given before: of a grant that has one of them
+unfoldable pub known : ℕ → Bool → Revision → GrantNo → ℕ → Found
+known count full v g n = cond full (Unknown n) (cond (leb count (g .0)) (Unknown n) (Asks (asked v g) n))
 
-unfoldable pub numRemoval : Status → List ℕ → ℕ → Table → Reading
-numRemoval by s at t = removalOf by t (numForm s at (starting t))
+abbrev pub revisionOf : Revision → Table → GrantReading → Reading
+revisionOf v t r = onGrant (r .out) (noR t) (λ g n. record { table = t; found = known (t .count) (r .numbering .full) v g n })
+
+unfoldable pub numRevision : Revision → List ℕ → ℕ → Table → Reading
+numRevision v s at t = revisionOf v t (numForm s at (starting t))
 
 abbrev pub queryOf : Table → ConclReading → Reading
 queryOf t r = onConcl (r .out) (noR t) (λ c n. given t (r .numbering) (Query c) n)
@@ -62,17 +72,24 @@ queryOf t r = onConcl (r .out) (noR t) (λ c n. given t (r .numbering) (Query c)
 unfoldable pub numQuery : List ℕ → ℕ → Table → Reading
 numQuery s at t = queryOf t (numConclForm nothingDeclared s at (starting t))
 
-unfoldable pub numLicence : Bool → List ℕ → ℕ → Table → Reading
-numLicence enters s at t =
-    onOutcome (upto (speakers - 1) s at) (noR t) (λ p n.
-    cond enters (numEntry (Issued (record { 0 = p })) s n t) (numRemoval (Issued (record { 0 = p })) s n t))
+-- the grant of a licence of p, after the issuer byte
+unfoldable pub numLicensed : Deed → Prin → List ℕ → ℕ → Table → Reading
+numLicensed deed.Issue p s at t = numEntry (Issued p) s at t
+numLicensed deed.Provisional p s at t = numEntry (Provisional p) s at t
+numLicensed deed.Withdraw p s at t = numRevision (revision.Remove (Issued p)) s at t
+numLicensed deed.Confirm p s at t = numRevision (revision.Confirm p) s at t
+
+unfoldable pub numLicence : Deed → List ℕ → ℕ → Table → Reading
+numLicence d s at t = onOutcome (upto (speakers - 1) s at) (noR t) (λ p n. numLicensed d (record { 0 = p }) s n t)
 
 unfoldable pub numContent : Kind → List ℕ → ℕ → Table → Reading
 numContent Tg s at t = numEntry Trusted s at t
-numContent St s at t = numRemoval Trusted s at t
-numContent Li s at t = numLicence true s at t
-numContent Wd s at t = numLicence false s at t
+numContent St s at t = numRevision (revision.Remove Trusted) s at t
+numContent Li s at t = numLicence deed.Issue s at t
+numContent Wd s at t = numLicence deed.Withdraw s at t
 numContent Qu s at t = numQuery s at t
+numContent Pl s at t = numLicence deed.Provisional s at t
+numContent Cf s at t = numLicence deed.Confirm s at t
 
 -- a record over a table of at most 64 rows
 unfoldable pub numRecord : List ℕ → Table → Reading

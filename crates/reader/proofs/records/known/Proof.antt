@@ -15,15 +15,12 @@ returns-2 : tie.Need-returns-2
 unfolding known
 returns-2 c = rw (c .before .before .if1 .left, le-leb _ _ (c .if2 .taken))
 
+asked-requires : tie.Need-asked-requires
+asked-requires c κs = search needs
+
 returns-3 : tie.Need-returns-3
 unfolding known
-returns-3 c = rw (c .before .before .if1 .left, lt-leb _ _ (c .if2 .left))
+returns-3 c = rw (c .before .before .before .if1 .left, lt-leb _ _ (c .before .if2 .left), c .asked .ensures)
 
 pub known-spec : {M : Type 1} → statement M
-known-spec =
-    tie.close
-    (tie.spec
-    returns
-    cast-if2
-    returns-2
-    returns-3)
+known-spec = tie.close (tie.spec returns cast-if2 returns-2 asked-requires returns-3)

@@ -12,8 +12,8 @@ read-entry-requires c κs = search needs
 enum-told-2 : tie.Need-enum-told-2
 enum-told-2 c = search needs
 
-read-removal-requires : tie.Need-read-removal-requires
-read-removal-requires c κs = search needs
+read-revision-requires : tie.Need-read-revision-requires
+read-revision-requires c κs = search needs
 
 enum-told-3 : tie.Need-enum-told-3
 enum-told-3 c = search needs
@@ -33,13 +33,25 @@ enum-told-5 c = search needs
 read-query-requires : tie.Need-read-query-requires
 read-query-requires c κs = search needs
 
+enum-told-6 : tie.Need-enum-told-6
+enum-told-6 c = search needs
+
+read-licence-requires-3 : tie.Need-read-licence-requires-3
+read-licence-requires-3 c κs = search needs
+
+enum-told-7 : tie.Need-enum-told-7
+enum-told-7 c = search needs
+
+read-licence-requires-4 : tie.Need-read-licence-requires-4
+read-licence-requires-4 c κs = search needs
+
 returns : tie.Need-returns
 unfolding numContent
 returns c = rw (c .before .enum-told .given .1) (c .read-entry .ensures)
 
 returns-2 : tie.Need-returns-2
 unfolding numContent
-returns-2 c = rw (c .before .enum-told2 .given .1) (c .read-removal .ensures)
+returns-2 c = rw (c .before .enum-told2 .given .1) (c .read-revision .ensures)
 
 returns-3 : tie.Need-returns-3
 unfolding numContent
@@ -53,6 +65,14 @@ returns-5 : tie.Need-returns-5
 unfolding numContent
 returns-5 c = rw (c .before .enum-told5 .given .1) (c .read-query .ensures)
 
+returns-6 : tie.Need-returns-6
+unfolding numContent
+returns-6 c = rw (c .before .enum-told6 .given .1) (c .read-licence3 .ensures)
+
+returns-7 : tie.Need-returns-7
+unfolding numContent
+returns-7 c = rw (c .before .enum-told7 .given .1) (c .read-licence4 .ensures)
+
 pub read-content-spec : {M : Type 1} → statement M
 read-content-spec =
     tie.close
@@ -60,15 +80,21 @@ read-content-spec =
     enum-told
     read-entry-requires
     enum-told-2
-    read-removal-requires
+    read-revision-requires
     enum-told-3
     read-licence-requires
     enum-told-4
     read-licence-requires-2
     enum-told-5
     read-query-requires
+    enum-told-6
+    read-licence-requires-3
+    enum-told-7
+    read-licence-requires-4
     returns
     returns-2
     returns-3
     returns-4
-    returns-5)
+    returns-5
+    returns-6
+    returns-7)

@@ -1,6 +1,6 @@
 use mathlib.Core.Path.{sym, _∙_}
-use Rattle.reader.specs.inner.OneRecord.{numLicence}
 use Rattle.ranges.proofs.Answers.{byte-got, byte-no}
+use Rattle.reader.specs.inner.OneRecord.{numLicence}
 use borrow.Author.Needs.{needs}
 use Rattle.reader.proofs.records.read_licence.Statement.{statement}
 use Rattle.reader.proofs.records.read_licence.Tie as tie
@@ -17,11 +17,8 @@ refused-requires c κs = search needs
 enum-known-p : tie.Need-enum-known-p
 enum-known-p c = search needs
 
-read-entry-requires : tie.Need-read-entry-requires
-read-entry-requires c κs = search needs
-
-read-removal-requires : tie.Need-read-removal-requires
-read-removal-requires c κs = search needs
+read-licensed-requires : tie.Need-read-licensed-requires
+read-licensed-requires c κs = search needs
 
 returns : tie.Need-returns
 unfolding numLicence
@@ -29,11 +26,7 @@ returns c = rw (byte-no _ _ (sym ((c .before .before .before .before .read-upto)
 
 returns-2 : tie.Need-returns-2
 unfolding numLicence
-returns-2 c = rw (byte-got _ _ _ (sym ((c .before .before .before .before .before .read-upto) .ensures) ∙ c .before .before .before .p .given .1), (c .before .if1) .taken) ((c .read-entry) .ensures)
-
-returns-3 : tie.Need-returns-3
-unfolding numLicence
-returns-3 c = rw (byte-got _ _ _ (sym ((c .before .before .before .before .before .read-upto) .ensures) ∙ c .before .before .before .p .given .1), (c .before .if1) .left) ((c .read-removal) .ensures)
+returns-2 c = rw (byte-got _ _ _ (sym ((c .before .before .before .before .read-upto) .ensures) ∙ c .before .before .p .given .1)) ((c .read-licensed) .ensures)
 
 pub read-licence-spec : {M : Type 1} → statement M
 read-licence-spec =
@@ -43,8 +36,6 @@ read-licence-spec =
     enum-known-k
     refused-requires
     enum-known-p
-    read-entry-requires
-    read-removal-requires
+    read-licensed-requires
     returns
-    returns-2
-    returns-3)
+    returns-2)

@@ -1,7 +1,7 @@
-use Rattle.reader.specs.inner.OneRecord.{numRemoval}
+use Rattle.reader.specs.inner.OneRecord.{numRevision}
 use borrow.Author.Needs.{needs}
-use Rattle.reader.proofs.records.read_removal.Statement.{statement}
-use Rattle.reader.proofs.records.read_removal.Tie as tie
+use Rattle.reader.proofs.records.read_revision.Statement.{statement}
+use Rattle.reader.proofs.records.read_revision.Tie as tie
 
 start-requires : tie.Need-start-requires
 start-requires c κs = search needs
@@ -22,15 +22,15 @@ known-requires : tie.Need-known-requires
 known-requires c κs = search needs
 
 returns : tie.Need-returns
-unfolding numRemoval
+unfolding numRevision
 returns c = rw (← (c .before .before .before .before .before .before .start) .ensures, ← (c .before .before .before .before .before .read-grant) .ensures .0, (c .before .before .o) .given .1) ((c .refused) .ensures)
 
 returns-2 : tie.Need-returns-2
-unfolding numRemoval
+unfolding numRevision
 returns-2 c = rw (← (c .before .before .before .before .before .before .start) .ensures, ← (c .before .before .before .before .before .read-grant) .ensures .0, (c .before .before .o2) .given .1, (c .known) .ensures)
 
-pub read-removal-spec : {M : Type 1} → statement M
-read-removal-spec =
+pub read-revision-spec : {M : Type 1} → statement M
+read-revision-spec =
     tie.close
     (tie.spec
     start-requires
