@@ -1,0 +1,4 @@
+pub mod Apart
+pub mod Choices
+pub mod Flags
+pub mod Sets
