@@ -1,204 +1,245 @@
 -- A call on a book in form follows the plain machine.
-use Prim.Native.Nat.{ℕ, _*_, _≤_, _<_}
+use Prim.Native.Nat.{ℕ, _≤_, _<_}
 use mathlib.Core.Path.{_≡_, refl, sym, ap, subst, _∙_}
 use mathlib.Core.Bool.{Bool, true, false, cond}
 use mathlib.Core.List.{List}
 use native.Mathlib.Omega.{arith}
-use native.Mathlib.Decide.{ℕ-discrete}
-use lib.ListN.{length, getD, set, length-set}
-use lib.Seq.{getD-set-same, getD-set-other}
+use lib.ListN.{length}
+use Rattle.sorts.specs.declared.Prin.{Prin}
 use Rattle.sorts.specs.declared.Status.{Status}
-use Rattle.sorts.specs.Numbers.{numberOf}
-use Rattle.sorts.specs.Flags.{StatusRange, rowFlags, flagPlace}
-use Rattle.sorts.proofs.Flags.{place-in}
+use Rattle.sorts.specs.declared.Status.the-variants.{Trusted, Issued, Provisional}
+use Rattle.sorts.specs.Numbers.{numberOf, grants}
+use Rattle.sorts.specs.Flags.{StatusRange}
 use Rattle.rows.specs.declared.Table.{Table}
 use Rattle.rows.specs.Written.{Grant, Concl}
 use Rattle.rows.specs.Numbering.{place, has, number, numberConcl}
 use Rattle.rows.specs.Form.{conclOf, rowsOut, TableForm}
 use Rattle.rows.proofs.Bytes.{no-true}
-use Rattle.rows.proofs.Place.{Distinct, place-at, has-lt}
+use Rattle.rows.proofs.Place.{Distinct, has-lt}
 use Rattle.rows.proofs.Shown.{form-shown, out-length}
+use Rattle.rows.proofs.Appended.{Ext, ext-refl, ext-length, number-ext, concl-more}
 use Rattle.ranges.specs.Bytes.{Outcome, got, refused}
-use Rattle.reader.specs.Records.{Record, enter, remove, query, readCanonical}
+use Rattle.reader.specs.Records.{Record, enter, remove, confirm, query, readCanonical}
 use Rattle.reader.specs.Requests.{fits, foundOf, numberedBy, Reads}
-use Rattle.reader.specs.declared.records.Request.the-variants.{Enter, Remove, Query}
+use Rattle.reader.specs.declared.records.Request.the-variants.{Enter, Remove, Confirm, Query}
 use Rattle.reader.specs.declared.records.Found.{Found}
 use Rattle.reader.specs.declared.records.Found.the-variants as found
 use Rattle.reader.specs.declared.records.Reading.{Reading}
 use Rattle.exact.specs.Writing.{AllowedRecord}
 use Rattle.canon.specs.Canon.{Canonical, CanonicalConcl}
-use Rattle.canon.specs.CanonicalRows.{CanonicalRows}
 use Rattle.canon.proofs.Numbers.{AllInForm, rows-all, all-rows, number-in-form, concl-in-form}
 use Rattle.exact.proofs.CanonicalRecords.{canonical-exact}
-use Rattle.rows.proofs.Appended.{Ext, ext-refl, ext-length, number-ext, concl-more}
-use Rattle.rules.specs.Standing.{standing}
 use Rattle.rules.proofs.Standing.{standing-length, standing-bits}
+use Rattle.flags.specs.Both.{bothFlags}
+use Rattle.flags.specs.Changes.{isSet, enteredFlags, thereFlags, removedFlags}
+use Rattle.flags.proofs.Changing.{FlagsFit, entered-fit, removed-fit}
+use Rattle.machine.specs.Machine.{State, Entry, Step, changes, asks, refuses, refuse, change, act, acted, step, stands, entered, there, removed}
+use Rattle.machine.proofs.Apart.{Apart, entered-apart, removed-apart}
+use Rattle.machine.proofs.Flags.{Shown, entered-shown, removed-shown, there-shown, set-shown, apart-flags, flags-apart}
 use Rattle.book.specs.declared.Book.{Book}
 use Rattle.book.specs.declared.Answered.{Answered}
-use Rattle.book.specs.Machine.{State, Entry, Step, changes, asks, refuses, refuse, act, acted, step, insert, delete, stands}
-use Rattle.book.specs.Books.{BookForm, Shows, bit}
-use Rattle.book.specs.Calls.{answerOf, marksAfter, Follows}
-use Rattle.book.specs.inner.Apply.{flagged, refusedWith, changedTo, appliedTo, marksAppliedTo, applied, marksApplied, Ready}
-use Rattle.book.proofs.Sets.{insert-same, insert-other, delete-same, delete-other}
-use Rattle.book.proofs.Showing.{shows-more, shows-set}
-use Rattle.book.proofs.Forms.{table-rows, number-has, found-fits}
+use Rattle.book.specs.Books.{BookForm, Shows}
+use Rattle.book.specs.Calls.{answerOf, marksAfter, secondAfter, Follows}
+use Rattle.book.specs.inner.Apply.{firmMarks, bothMarks, refusedWith, changedTo, enteredBook, removedBook, appliedTo, marksAppliedTo, applied, marksApplied, FoundFits, Ready}
+use Rattle.book.proofs.Showing.{shown-more, shown-book}
+use Rattle.book.proofs.Forms.{table-rows, number-has, found-fits, firm-status}
 
 -- what a call follows, for any step
-record Steps (st : Step) (b : Book) (m : List ℕ) (a : Answered) (n : List ℕ) : Type 0 where
-  answer : a .answer ≡ answerOf (st .says) m n
+record Steps (st : Step) (b : Book) (m k : List ℕ) (a : Answered) (n l : List ℕ) : Type 0 where
+  answer : a .answer ≡ answerOf (st .says) m k n
   used : a .used ≡ st .used
   marks : n ≡ marksAfter (st .says) (a .book) m
+  second : l ≡ secondAfter (st .says) (a .book) k
   shows : Shows (a .book) (st .next)
-  form : BookForm (a .book) n
-  kept : (k : ℕ) → st .says ≡ refuses k → a .book ≡ b
+  form : BookForm (a .book) n l
+  kept : (j : ℕ) → st .says ≡ refuses j → a .book ≡ b
 
-module _ (b : Book) (m s : List ℕ) (f : BookForm b m) (r : Reading) (R : Reads s (b .table) r) where
+module _ (b : Book) (m k s : List ℕ) (f : BookForm b m k) (r : Reading) (R : Reads s (b .table) r) where
   abbrev N : List Grant
   N = rowsOut (b .table .rows) (b .table .count)
 
   len : b .table .count ≡ length N
   len = sym (out-length (b .table .rows) (b .table .count))
 
+  small : length N ≤ grants
+  small = let c = f .table .count in omega (arith, len)
+
   -- what has a number is in canonical form
   numbered : AllInForm N
   numbered = rows-all (b .table) (f .canonical)
 
   -- what the code needs holds
-  pub ready : Ready b m r
+  pub ready : Ready b m k r
   ready = record {
     rows = table-rows (b .table) (f .table);
     next = table-rows (r .table) (R .form (f .table));
     flags = f .flags;
-    marks = f .marks;
-    fits = subst (λ (x : Found). Rattle.book.specs.inner.Apply.FoundFits x) (sym (R .found (f .table))) (found-fits N (let c = f .table .count in omega (arith, len)) s);
+    marks = f .marks .count;
+    second = f .second .count;
+    fits = subst FoundFits (sym (R .found (f .table))) (found-fits N small s);
   }
-
-  -- flags in form, with one more or one less
-  module _ (t : Table) (F : TableForm t) (K : CanonicalRows t) (grows : b .table .count ≤ t .count) (at v : ℕ) (inside : at < rowFlags * t .count) (bits : v ≤ 1) where
-    set-form : BookForm (flagged t (b .flags) at v) (standing (t .rows) (set (b .flags) at v))
-    set-form = record {
-      marks = standing-length (t .rows) (set (b .flags) at v);
-      markBits = standing-bits (t .rows) (set (b .flags) at v);
-      flags = length-set (b .flags) at v ∙ f .flags;
-      flagBits = λ i. bit-at i (ℕ-discrete i at);
-      table = F;
-      canonical = K;
-      unflagged = λ i l. getD-set-other (b .flags) at i v 0 (λ (e : i ≡ at). omega arith) ∙ f .unflagged i (omega arith);
-    }
-      where
-        in-flags : at < length (b .flags)
-        in-flags = let c = F .count in let l = f .flags in omega arith
-
-        bit-at : (i : ℕ) → Dec (i ≡ at) → getD (set (b .flags) at v) i 0 ≤ 1
-        bit-at i (yes e) = let h = ap (λ (n : ℕ). getD (set (b .flags) at v) n 0) e ∙ getD-set-same (b .flags) at v 0 in-flags in omega arith
-        bit-at i (no d) = let h = getD-set-other (b .flags) at i v 0 d in let k = f .flagBits i in omega arith
 
   module _ (E : List Entry) (sh : Shows b (record { entries = E; N = N })) where
     abbrev M : State
     M = record { entries = E; N = N }
 
-    refused-steps : (k n : ℕ) → Steps (refuse M k n) b m (refusedWith b k n) m
-    unfolding answerOf marksAfter
-    refused-steps k n = record { answer = refl; used = refl; marks = refl; shows = sh; form = f; kept = λ j e. refl }
+    -- what the flags show over the grants of N′, of which N is a part
+    over : (N′ : List Grant) → Ext N N′ → Distinct N′ → Shown N′ (b .flags) E
+    over N′ ext d = shown-more sh len (f .unflagged) N′ ext d (f .flags)
 
-    no-change : {k : ℕ} → changes ≡ refuses k → ⊥
+    apart : Apart E
+    apart = flags-apart N (b .flags) E (over N (ext-refl N) (form-shown (b .table) (f .table) .distinct)) (f .apart)
+
+    refused-steps : (j n : ℕ) → Steps (refuse M j n) b m k (refusedWith b j n) m k
+    unfolding answerOf marksAfter secondAfter
+    refused-steps j n = record { answer = refl; used = refl; marks = refl; second = refl; shows = sh; form = f; kept = λ i e. refl }
+
+    no-change : {j : ℕ} → changes ≡ refuses j → ⊥
     no-change e = let z : _≡_ {A = ℕ} 0 1 = cc in omega arith
 
-    no-asks : {c k : ℕ} → asks c ≡ refuses k → ⊥
+    no-asks : {c j : ℕ} → asks c ≡ refuses j → ⊥
     no-asks e = let z : _≡_ {A = ℕ} 0 1 = cc in omega arith
 
-    -- to set a flag over a table that shows N′, or to take it away
-    module _ (t : Table) (F : TableForm t) (N′ : List Grant) (is : rowsOut (t .rows) (t .count) ≡ N′) (ext : Ext N N′) (all : AllInForm N′)
-        (by : Status) (known : StatusRange by) (g : Grant) (there : has g N′ ≡ true) (v : Bool) (M′ : State) (numbers : M′ .N ≡ N′)
-        (changed : stands M′ by g ≡ v)
-        (others : (by′ : Status) (h : Grant) → (_≡_ {A = Entry} (record { by = by′; what = h }) (record { by = by; what = g }) → ⊥) → stands M′ by′ h ≡ stands M by′ h) where
+    -- over a table that shows N′
+    module _ (t : Table) (F : TableForm t) (N′ : List Grant) (is : rowsOut (t .rows) (t .count) ≡ N′) (ext : Ext N N′) (all : AllInForm N′) where
       len′ : t .count ≡ length N′
       len′ = sym (out-length (t .rows) (t .count)) ∙ ap length is
+
+      small′ : length N′ ≤ grants
+      small′ = let c = F .count in omega (arith, len′)
 
       distinct′ : Distinct N′
       distinct′ = subst Distinct is (form-shown t F .distinct)
 
-      inside : flagPlace by (place g N′) < rowFlags * t .count
-      inside = place-in by (place g N′) (t .count) known (let l = has-lt g N′ there in omega (arith, l, len′))
+      fit : FlagsFit (t .count) (b .flags)
+      fit = record { bits = f .flagBits; unflagged = λ i l. f .unflagged i (let x = ext-length ext in omega (arith, len, len′)) }
 
-      change-steps : (n : ℕ) → Steps (record { next = M′; says = changes; used = n }) b m (changedTo (flagged t (b .flags) (flagPlace by (place g N′)) (bit v)) m n)
-          (standing (t .rows) (set (b .flags) (flagPlace by (place g N′)) (bit v)))
-      unfolding answerOf marksAfter
-      change-steps n = record {
+      before : Shown N′ (b .flags) E
+      before = over N′ ext distinct′
+
+      -- flags that changed, and what stands then
+      change-steps : (G : List ℕ) (D : List Entry) → Shown N′ G D → FlagsFit (t .count) G → Apart D → (n : ℕ) →
+          Steps (change D N′ n) b m k (changedTo (record { table = t; flags = G }) m n) (firmMarks (record { table = t; flags = G })) (bothMarks (record { table = t; flags = G }))
+      unfolding answerOf marksAfter secondAfter
+      change-steps G D S T a n = record {
         answer = refl;
         used = refl;
         marks = refl;
-        shows = shows-set sh len (f .unflagged) N′ ext distinct′ by known g there v M′ numbers changed others (f .flags)
-            (let c = F .count in omega (arith, len′)) t is;
-        form = set-form t F (all-rows t N′ is all) (let x = ext-length ext in omega (arith, len, len′)) (flagPlace by (place g N′)) (bit v) inside (bit-le v);
-        kept = λ k e. absurd (no-change e);
+        second = refl;
+        shows = shown-book t G D N′ is S;
+        form = record {
+          marks = record { count = standing-length (t .rows) G; bits = standing-bits (t .rows) G };
+          second = record { count = standing-length (t .rows) (bothFlags G); bits = standing-bits (t .rows) (bothFlags G) };
+          flags = S .long;
+          flagBits = T .bits;
+          table = F;
+          canonical = all-rows t N′ is all;
+          apart = apart-flags N′ G D S (λ i l. T .unflagged i (omega (arith, l, len′))) a;
+          unflagged = T .unflagged;
+        };
+        kept = λ j e. absurd (no-change e);
       }
-        where
-          bit-le : (x : Bool) → bit x ≤ 1
-          bit-le true = omega arith
-          bit-le false = omega arith
 
-    -- the entry, in the set or out of it
-    abbrev entry : Status → Grant → Entry
-    entry by g = record { by = by; what = g }
+      module _ (by : Status) (known : StatusRange by) (g : Grant) (there′ : has g N′ ≡ true) where
+        in-table : place g N′ < t .count
+        in-table = omega (arith, len′, has-lt g N′ there′)
+
+        entered-steps : (n : ℕ) → Steps (change (entered by g E) N′ n) b m k (changedTo (enteredBook b t by (place g N′)) m n) (firmMarks (enteredBook b t by (place g N′))) (bothMarks (enteredBook b t by (place g N′)))
+        entered-steps n =
+            change-steps (enteredFlags by (place g N′) (b .flags)) (entered by g E) (entered-shown N′ small′ distinct′ g there′ (b .flags) E before by known)
+            (entered-fit (t .count) (F .count) (place g N′) in-table (b .flags) by (f .flags) known fit) (entered-apart E apart g by) n
+
+        removed-steps : (n : ℕ) → Steps (change (removed by g E) N′ n) b m k (changedTo (record { table = t; flags = removedFlags by (place g N′) (b .flags) }) m n)
+            (firmMarks (record { table = t; flags = removedFlags by (place g N′) (b .flags) })) (bothMarks (record { table = t; flags = removedFlags by (place g N′) (b .flags) }))
+        removed-steps n =
+            change-steps (removedFlags by (place g N′) (b .flags)) (removed by g E) (removed-shown N′ small′ distinct′ g there′ (b .flags) E before by known)
+            (removed-fit (t .count) (F .count) (place g N′) in-table (b .flags) by (f .flags) known fit) (removed-apart E apart g by) n
+
+    distinct : Distinct N
+    distinct = form-shown (b .table) (f .table) .distinct
 
     -- to enter
 
-    abbrev entered : Status → Grant → State
-    entered by g = record { entries = insert (entry by g) E; N = number g N }
-
     module _ (by : Status) (known : StatusRange by) (g : Grant) (own : Canonical g) (n : ℕ) (rows′ : fits (number g N) ≡ true → rowsOut (r .table .rows) (r .table .count) ≡ number g N) where
-      enter-steps : (c : Bool) → fits (number g N) ≡ c → Steps (cond c (record { next = entered by g; says = changes; used = n }) (refuse M 6 n)) b m
-          (appliedTo b m (r .table) (cond c (found.Asks (Enter by (record { 0 = place g (number g N) })) n) (found.Full n)))
-          (marksAppliedTo b m (r .table) (cond c (found.Asks (Enter by (record { 0 = place g (number g N) })) n) (found.Full n)))
+      enter-steps : (c : Bool) → fits (number g N) ≡ c → Steps (cond c (change (entered by g E) (number g N) n) (refuse M 6 n)) b m k
+          (appliedTo b m k (r .table) (cond c (found.Asks (Enter by (record { 0 = place g (number g N) })) n) (found.Full n)))
+          (marksAppliedTo firmMarks b m (r .table) (cond c (found.Asks (Enter by (record { 0 = place g (number g N) })) n) (found.Full n)))
+          (marksAppliedTo bothMarks b k (r .table) (cond c (found.Asks (Enter by (record { 0 = place g (number g N) })) n) (found.Full n)))
       enter-steps true e =
-          change-steps (r .table) (R .form (f .table)) (number g N) (rows′ e) (number-ext g N) (number-in-form g N own numbered) by known g (number-has g N) true (entered by g) refl
-          (insert-same (entry by g) E) (λ by′ h d. insert-other (entry by g) (entry by′ h) E d) n
+          entered-steps (r .table) (R .form (f .table)) (number g N) (rows′ e) (number-ext g N) (number-in-form g N own numbered) by known g (number-has g N) n
       enter-steps false e = refused-steps 6 n
 
-    -- to remove
+    -- to remove, and to confirm
 
-    abbrev removed : Status → Grant → State
-    removed by g = record { entries = delete (entry by g) E; N = N }
+    absent : (g : Grant) → has g N ≡ false → (by : Status) → stands M by g ≡ true → ⊥
+    absent g e by h = no-true (sym e ∙ sh .within by g h .0)
 
-    module _ (by : Status) (known : StatusRange by) (g : Grant) (n : ℕ) where
-      -- the flag of a grant with a number says whether it stands so
-      flag-is : has g N ≡ true → getD (b .flags) (flagPlace by (place g N)) 0 ≡ bit (stands M by g)
-      flag-is e = let l = has-lt g N e in sh .flags by (place g N) known l ∙ ap (λ (h : Grant). bit (stands M by h)) (place-at g N l)
+    not-true-false : (c : Bool) → (c ≡ true → ⊥) → c ≡ false
+    not-true-false true h = absurd (h refl)
+    not-true-false false h = refl
 
-      remove-steps : (c d : Bool) → stands M by g ≡ c → has g N ≡ d → Steps (cond c (record { next = removed by g; says = changes; used = n }) (refuse M 7 n)) b m
-          (appliedTo b m (r .table) (cond d (found.Asks (Remove by (record { 0 = place g N })) n) (found.Unknown n)))
-          (marksAppliedTo b m (r .table) (cond d (found.Asks (Remove by (record { 0 = place g N })) n) (found.Unknown n)))
-      remove-steps true true e h =
-          rw (flag-is h ∙ ap bit e)
-          (change-steps (b .table) (f .table) N refl (ext-refl N) numbered by known g h false (removed by g) refl
-          (delete-same (entry by g) E) (λ by′ h d. delete-other (entry by g) (entry by′ h) E d) n)
-      remove-steps true false e h = absurd (no-true (sym h ∙ sh .within by g e .0))
-      remove-steps false true e h = rw (flag-is h ∙ ap bit e) (refused-steps 7 n)
-      remove-steps false false e h = refused-steps 7 n
+    -- a change where there is something to change, by what the flags say and by what stands
+    picked : (D : List Entry) (b′ : Book) (n : ℕ) → Steps (change D N n) b m k (changedTo b′ m n) (firmMarks b′) (bothMarks b′) → (c d : Bool) → c ≡ d →
+        Steps (cond d (change D N n) (refuse M 7 n)) b m k (cond c (changedTo b′ m n) (refusedWith b 7 n)) (cond c (firmMarks b′) m) (cond c (bothMarks b′) k)
+    picked D b′ n S true true e = S
+    picked D b′ n S true false e = absurd (no-true (sym e))
+    picked D b′ n S false true e = absurd (no-true e)
+    picked D b′ n S false false e = refused-steps 7 n
+
+    -- nothing to change
+    left : (st : Step) (n : ℕ) (d : Bool) → d ≡ false → Steps (cond d st (refuse M 7 n)) b m k (refusedWith b 7 n) m k
+    left st n true e = absurd (no-true (sym e))
+    left st n false e = refused-steps 7 n
+
+    module _ (g : Grant) (n : ℕ) where
+      not-there : has g N ≡ false → (by : Status) → there by g E ≡ false
+      not-there e Trusted = not-true-false (stands M Trusted g) (absent g e Trusted)
+      not-there e (Issued p) = rw (not-true-false (stands M (Issued p) g) (absent g e (Issued p))) (not-true-false (stands M (Provisional p) g) (absent g e (Provisional p)))
+      not-there e (Provisional p) = not-true-false (stands M (Provisional p) g) (absent g e (Provisional p))
+
+      remove-steps : (by : Status) → StatusRange by → (d : Bool) → has g N ≡ d → Steps (cond (there by g E) (change (removed by g E) N n) (refuse M 7 n)) b m k
+          (appliedTo b m k (r .table) (cond d (found.Asks (Remove by (record { 0 = place g N })) n) (found.Unknown n)))
+          (marksAppliedTo firmMarks b m (r .table) (cond d (found.Asks (Remove by (record { 0 = place g N })) n) (found.Unknown n)))
+          (marksAppliedTo bothMarks b k (r .table) (cond d (found.Asks (Remove by (record { 0 = place g N })) n) (found.Unknown n)))
+      remove-steps by known true h =
+          picked (removed by g E) (removedBook b by (place g N)) n (removed-steps (b .table) (f .table) N refl (ext-refl N) numbered by known g h n)
+          (thereFlags by (place g N) (b .flags)) (there by g E) (there-shown N small distinct g h (b .flags) E (over N (ext-refl N) distinct) by known)
+      remove-steps by known false h = left (change (removed by g E) N n) n (there by g E) (not-there h by)
+
+      confirm-steps : (p : Prin) → StatusRange (Issued p) → (d : Bool) → has g N ≡ d → Steps (cond (stands M (Provisional p) g) (change (entered (Issued p) g E) N n) (refuse M 7 n)) b m k
+          (appliedTo b m k (r .table) (cond d (found.Asks (Confirm p (record { 0 = place g N })) n) (found.Unknown n)))
+          (marksAppliedTo firmMarks b m (r .table) (cond d (found.Asks (Confirm p (record { 0 = place g N })) n) (found.Unknown n)))
+          (marksAppliedTo bothMarks b k (r .table) (cond d (found.Asks (Confirm p (record { 0 = place g N })) n) (found.Unknown n)))
+      confirm-steps p known true h =
+          picked (entered (Issued p) g E) (enteredBook b (b .table) (Issued p) (place g N)) n (entered-steps (b .table) (f .table) N refl (ext-refl N) numbered (Issued p) known g h n)
+          (isSet (b .flags) (Provisional p) (place g N)) (stands M (Provisional p) g) (set-shown N small distinct g h (b .flags) E (over N (ext-refl N) distinct) (Provisional p) known)
+      confirm-steps p known false h = left (change (entered (Issued p) g E) N n) n (stands M (Provisional p) g) (not-true-false (stands M (Provisional p) g) (absent g h (Provisional p)))
 
     -- to query
 
     query-steps : (c : Concl) → CanonicalConcl c → (n : ℕ) → (fits (numberConcl c N) ≡ true → rowsOut (r .table .rows) (r .table .count) ≡ numberConcl c N) → (d : Bool) → fits (numberConcl c N) ≡ d →
-        Steps (cond d (record { next = record { entries = E; N = numberConcl c N }; says = asks (numberOf (conclOf (numberConcl c N) c)); used = n }) (refuse M 6 n)) b m
-        (appliedTo b m (r .table) (cond d (found.Asks (Query (conclOf (numberConcl c N) c)) n) (found.Full n)))
-        (marksAppliedTo b m (r .table) (cond d (found.Asks (Query (conclOf (numberConcl c N) c)) n) (found.Full n)))
-    unfolding answerOf marksAfter
+        Steps (cond d (record { next = record { entries = E; N = numberConcl c N }; says = asks (numberOf (conclOf (numberConcl c N) c)); used = n }) (refuse M 6 n)) b m k
+        (appliedTo b m k (r .table) (cond d (found.Asks (Query (conclOf (numberConcl c N) c)) n) (found.Full n)))
+        (marksAppliedTo firmMarks b m (r .table) (cond d (found.Asks (Query (conclOf (numberConcl c N) c)) n) (found.Full n)))
+        (marksAppliedTo bothMarks b k (r .table) (cond d (found.Asks (Query (conclOf (numberConcl c N) c)) n) (found.Full n)))
+    unfolding answerOf marksAfter secondAfter
     query-steps c own n rows′ true e = record {
       answer = refl;
       used = refl;
       marks = refl;
-      shows = shows-more sh len (f .unflagged) (numberConcl c N) (concl-more c N) (subst Distinct (rows′ e) (form-shown (r .table) F .distinct)) (r .table) (rows′ e);
+      second = refl;
+      shows = shown-book (r .table) (b .flags) E (numberConcl c N) (rows′ e) (over (numberConcl c N) (concl-more c N) (subst Distinct (rows′ e) (form-shown (r .table) F .distinct)));
       form = record {
         marks = f .marks;
-        markBits = f .markBits;
+        second = f .second;
         flags = f .flags;
         flagBits = f .flagBits;
         table = F;
         canonical = all-rows (r .table) (numberConcl c N) (rows′ e) (concl-in-form c N own numbered);
+        apart = f .apart;
         unflagged = λ i l. f .unflagged i (omega (arith, len, more));
       };
-      kept = λ k e. absurd (no-asks e);
+      kept = λ j e. absurd (no-asks e);
     }
       where
         F : TableForm (r .table)
@@ -208,30 +249,35 @@ module _ (b : Book) (m s : List ℕ) (f : BookForm b m) (r : Reading) (R : Reads
         more = let x = ext-length (concl-more c N) in let y = sym (out-length (r .table .rows) (r .table .count)) ∙ ap length (rows′ e) in omega arith
     query-steps c own n rows′ false e = refused-steps 6 n
 
-    record-steps : (q : Record) (n : ℕ) → readCanonical s ≡ got q n → Steps (act M q n) b m
-        (appliedTo b m (r .table) (foundOf N (got q n))) (marksAppliedTo b m (r .table) (foundOf N (got q n)))
+    record-steps : (q : Record) (n : ℕ) → readCanonical s ≡ got q n → Steps (act M q n) b m k
+        (appliedTo b m k (r .table) (foundOf N (got q n))) (marksAppliedTo firmMarks b m (r .table) (foundOf N (got q n))) (marksAppliedTo bothMarks b k (r .table) (foundOf N (got q n)))
     unfolding act foundOf numberedBy AllowedRecord
     record-steps (enter by g) n e =
         enter-steps by (canonical-exact s (enter by g) n e .0 .0) g (canonical-exact s (enter by g) n e .1) n
-        (λ c. R .rows (f .table) ∙ ap (numberedBy N) e ∙ ap (λ (k : Bool). cond k (number g N) N) c) (fits (number g N)) refl
-    record-steps (remove by g) n e = remove-steps by (canonical-exact s (remove by g) n e .0 .0) g n (stands M by g) (has g N) refl refl
-    record-steps (query c) n e = query-steps c (canonical-exact s (query c) n e .1) n (λ d. R .rows (f .table) ∙ ap (numberedBy N) e ∙ ap (λ (k : Bool). cond k (numberConcl c N) N) d) (fits (numberConcl c N)) refl
+        (λ c. R .rows (f .table) ∙ ap (numberedBy N) e ∙ ap (λ (x : Bool). cond x (number g N) N) c) (fits (number g N)) refl
+    record-steps (remove by g) n e = remove-steps g n by (firm-status by (canonical-exact s (remove by g) n e .0 .0)) (has g N) refl
+    record-steps (confirm p g) n e = confirm-steps g n p (canonical-exact s (confirm p g) n e .0 .0) (has g N) refl
+    record-steps (query c) n e =
+        query-steps c (canonical-exact s (query c) n e .1) n (λ d. R .rows (f .table) ∙ ap (numberedBy N) e ∙ ap (λ (x : Bool). cond x (numberConcl c N) N) d) (fits (numberConcl c N)) refl
 
-    outcome-steps : (o : Outcome Record) → readCanonical s ≡ o → Steps (acted M o) b m (appliedTo b m (r .table) (foundOf N o)) (marksAppliedTo b m (r .table) (foundOf N o))
+    outcome-steps : (o : Outcome Record) → readCanonical s ≡ o → Steps (acted M o) b m k
+        (appliedTo b m k (r .table) (foundOf N o)) (marksAppliedTo firmMarks b m (r .table) (foundOf N o)) (marksAppliedTo bothMarks b k (r .table) (foundOf N o))
     unfolding foundOf
     outcome-steps (got q n) e = record-steps q n e
-    outcome-steps (refused k) e = refused-steps k 0
+    outcome-steps (refused j) e = refused-steps j 0
 
-    all-steps : Steps (acted M (readCanonical s)) b m (appliedTo b m (r .table) (r .found)) (marksAppliedTo b m (r .table) (r .found))
+    all-steps : Steps (acted M (readCanonical s)) b m k (appliedTo b m k (r .table) (r .found)) (marksAppliedTo firmMarks b m (r .table) (r .found)) (marksAppliedTo bothMarks b k (r .table) (r .found))
     all-steps =
-        subst (λ (x : Found). Steps (acted M (readCanonical s)) b m (appliedTo b m (r .table) x) (marksAppliedTo b m (r .table) x)) (sym (R .found (f .table))) (outcome-steps (readCanonical s) refl)
+        subst (λ (x : Found). Steps (acted M (readCanonical s)) b m k (appliedTo b m k (r .table) x) (marksAppliedTo firmMarks b m (r .table) x) (marksAppliedTo bothMarks b k (r .table) x))
+        (sym (R .found (f .table))) (outcome-steps (readCanonical s) refl)
 
-    follows-at : Follows M b m s (applied b m r) (marksApplied b m r)
+    follows-at : Follows M b m k s (applied b m k r) (marksApplied firmMarks b m r) (marksApplied bothMarks b k r)
     unfolding step applied marksApplied
-    follows-at = let x = all-steps in record { answer = x .answer; used = x .used; marks = x .marks; shows = x .shows; form = x .form; kept = x .kept }
+    follows-at = let x = all-steps in record { answer = x .answer; used = x .used; marks = x .marks; second = x .second; shows = x .shows; form = x .form; kept = x .kept }
 
-  pub follows : (M : State) → Shows b M → Follows M b m s (applied b m r) (marksApplied b m r)
-  follows M sh = subst (λ (X : State). Follows X b m s (applied b m r) (marksApplied b m r)) same (follows-at (M .entries) (subst (Shows b) (sym same) sh))
+  pub follows : (M : State) → Shows b M → Follows M b m k s (applied b m k r) (marksApplied firmMarks b m r) (marksApplied bothMarks b k r)
+  follows M sh =
+      subst (λ (X : State). Follows X b m k s (applied b m k r) (marksApplied firmMarks b m r) (marksApplied bothMarks b k r)) same (follows-at (M .entries) (subst (Shows b) (sym same) sh))
     where
       same : record { entries = M .entries; N = N } ≡ M
       same = λ i. record { entries = M .entries; N = sh .rows i }

@@ -13,8 +13,9 @@ use Rattle.sorts.specs.declared.Res as r
 use Rattle.sorts.specs.declared.Concl as rc
 use Rattle.sorts.specs.declared.Cond.{Cond}
 use Rattle.sorts.specs.declared.Status.{Status}
-use Rattle.sorts.specs.Flags.{StatusRange}
-use Rattle.sorts.proofs.Flags.{place-fits}
+use Rattle.sorts.specs.Flags.{StatusRange, FirmRange}
+use Rattle.sorts.specs.declared.Prin.{Prin}
+use Rattle.sorts.specs.declared.Status.the-variants.{Trusted, Issued, Provisional}
 use Rattle.sorts.specs.Blank.{blankCond, blankRow, noRow}
 use Rattle.sorts.specs.Numbers.{ClosedConcl, conditions, grants, principals, packs}
 use Rattle.sorts.proofs.Marks.{number-lt}
@@ -27,9 +28,9 @@ use Rattle.rows.specs.Allowed.{AllowedConcl}
 use Rattle.rows.proofs.Place.{has-in, has-lt}
 use Rattle.rows.proofs.Shown.{length-more}
 use Rattle.ranges.specs.Bytes.{Outcome, got, refused}
-use Rattle.reader.specs.Records.{Record, enter, remove, query, readCanonical}
+use Rattle.reader.specs.Records.{Record, enter, remove, confirm, query, readCanonical}
 use Rattle.reader.specs.Requests.{fits, foundOf}
-use Rattle.reader.specs.declared.records.Request.the-variants.{Enter, Remove, Query}
+use Rattle.reader.specs.declared.records.Request.the-variants.{Enter, Remove, Confirm, Query}
 use Rattle.reader.specs.declared.records.Found.the-variants as found
 use Rattle.exact.specs.Writing.{AllowedRecord}
 use Rattle.exact.proofs.CanonicalRecords.{canonical-exact}
@@ -78,6 +79,12 @@ number-has (grant prins res cs c) N = add-has (grant prins res cs c) (numberConc
 fits-small : (N : List Grant) → fits N ≡ true → length N ≤ grants
 fits-small N e = leb-true (length N) grants e
 
+-- what is removed is said as firm
+pub firm-status : (by : Status) → FirmRange by → StatusRange by
+firm-status Trusted f = f
+firm-status (Issued p) f = f
+firm-status (Provisional p) f = absurd f
+
 -- the conclusion of a query is closed
 
 prin-closed : (p : ℕ) → PrinForm 0 (record { 0 = p }) → p < principals
@@ -103,14 +110,22 @@ concl-closed (perm p (export n)) N a e = (prin-closed p (a .0), pack-closed n (a
 module _ (N : List Grant) (small : length N ≤ grants) where
   entering-fits : (by : Status) → StatusRange by → (g : Grant) (n : ℕ) (b : Bool) → fits (number g N) ≡ b →
       FoundFits (cond b (found.Asks (Enter by (record { 0 = place g (number g N) })) n) (found.Full n))
-  entering-fits by k g n true e =
-      place-fits by (place g (number g N)) k (let l = has-lt g (number g N) (number-has g N) in let s = fits-small (number g N) e in omega arith)
+  entering-fits by k g n true e = (k, let l = has-lt g (number g N) (number-has g N) in let s = fits-small (number g N) e in omega arith)
   entering-fits by k g n false e = tt
+
+  -- the number of a grant that has one
+  numbered-fits : (g : Grant) → has g N ≡ true → place g N < grants
+  numbered-fits g e = let l = has-lt g N e in omega arith
 
   removing-fits : (by : Status) → StatusRange by → (g : Grant) (n : ℕ) (b : Bool) → has g N ≡ b →
       FoundFits (cond b (found.Asks (Remove by (record { 0 = place g N })) n) (found.Unknown n))
-  removing-fits by k g n true e = place-fits by (place g N) k (let l = has-lt g N e in omega arith)
+  removing-fits by k g n true e = (k, numbered-fits g e)
   removing-fits by k g n false e = tt
+
+  confirming-fits : (p : Prin) → StatusRange (Issued p) → (g : Grant) (n : ℕ) (b : Bool) → has g N ≡ b →
+      FoundFits (cond b (found.Asks (Confirm p (record { 0 = place g N })) n) (found.Unknown n))
+  confirming-fits p k g n true e = (k, numbered-fits g e)
+  confirming-fits p k g n false e = tt
 
   query-fits : (c : Concl) (n : ℕ) → AllowedConcl 0 0 c → (b : Bool) → fits (numberConcl c N) ≡ b →
       FoundFits (cond b (found.Asks (Query (conclOf (numberConcl c N) c)) n) (found.Full n))
@@ -120,7 +135,8 @@ module _ (N : List Grant) (small : length N ≤ grants) where
   record-fits : (q : Record) (n : ℕ) → AllowedRecord q → FoundFits (foundOf N (got q n))
   unfolding foundOf AllowedRecord
   record-fits (enter by g) n a = entering-fits by (a .0) g n (fits (number g N)) refl
-  record-fits (remove by g) n a = removing-fits by (a .0) g n (has g N) refl
+  record-fits (remove by g) n a = removing-fits by (firm-status by (a .0)) g n (has g N) refl
+  record-fits (confirm p g) n a = confirming-fits p (a .0) g n (has g N) refl
   record-fits (query c) n a = query-fits c n (a .0) (fits (numberConcl c N)) refl
 
   pub found-fits : (s : List ℕ) → FoundFits (foundOf N (readCanonical s))

@@ -1,7 +1,8 @@
+pub mod Acting
 pub mod Decided
 pub mod Fits
 pub mod Following
 pub mod Forms
 pub mod Keeping
-pub mod Sets
+pub mod Renewing
 pub mod Showing

@@ -7,7 +7,7 @@ use Rattle.sorts.specs.Numbers.{grants, allMarks}
 use Rattle.sorts.specs.Flags.{allFlags}
 use Rattle.book.specs.declared.Book.{Book}
 use Rattle.book.specs.declared.Answered.{Answered}
-use Rattle.book.specs.Machine.{State, step}
+use Rattle.machine.specs.Machine.{State, step}
 use Rattle.book.specs.Calls.{Called}
 
 -- "A fresh book has blank rows, count 0, and every flag and mark 0."
@@ -22,15 +22,18 @@ pub record Call : Type 0 where
   pub record′ : List ℕ
   pub before : Book
   pub marks : List ℕ
+  pub second : List ℕ
   pub gave : Answered
   pub left : List ℕ
+  pub leftSecond : List ℕ
 
--- "Each call gets the rows, count, flags and marks that the last one left": calls from the book b and marks m on, to the book
--- b′ and marks m′.
-pub data Chain : Book → List ℕ → List Call → Book → List ℕ → Type 0 where
-  none : {b : Book} {m : List ℕ} → Chain b m [] b m
-  then : {b b′ : Book} {m m′ : List ℕ} {cs : List Call} (s : List ℕ) (r : Answered) (n : List ℕ) →
-      Called b m s r n → Chain (r .book) n cs b′ m′ → Chain b m (record { record′ = s; before = b; marks = m; gave = r; left = n } ∷ cs) b′ m′
+-- "Each call gets the rows, count, flags and marks that the last one left": calls from the book b and marks m and k on, to the book
+-- b′ and marks m′ and k′.
+pub data Chain : Book → List ℕ → List ℕ → List Call → Book → List ℕ → List ℕ → Type 0 where
+  none : {b : Book} {m k : List ℕ} → Chain b m k [] b m k
+  then : {b b′ : Book} {m m′ k k′ : List ℕ} {cs : List Call} (s : List ℕ) (r : Answered) (n l : List ℕ) →
+      Called b m k s r n l → Chain (r .book) n l cs b′ m′ k′ →
+      Chain b m k (record { record′ = s; before = b; marks = m; second = k; gave = r; left = n; leftSecond = l } ∷ cs) b′ m′ k′
 
 -- The records of a list of calls, in order.
 unfoldable pub records : List Call → List (List ℕ)

@@ -1,5 +1,3 @@
-pub mod Machine
-pub mod Closed
 pub mod Books
 pub mod Calls
 pub mod Chains

@@ -1,16 +1,30 @@
 // Whether a lent book is in form.
 use crate::Book;
+use flags::changes;
 use marks::bits;
 use sorts::Number;
 use sorts::Status;
 ghost use Rattle.sorts.specs.Decides.{Decides};
-ghost use Rattle.book.specs.Books.{BookForm};
+ghost use Rattle.book.specs.Books.{MarksForm, BookForm};
 
-// Whether the book and the marks lent with it are in form.
-pub fn in_form(b: Book, marks: &[u8]) -> bool
-    ensures { λ r. ⌜ Decides r (BookForm b (now (marks .entry))) ⌝ }
+// Whether marks that are lent are as many as there are, each 0 or 1.
+fn marks_ok(marks: &[u8]) -> bool
+    ensures { λ r. ⌜ Decides r (MarksForm (now (marks .entry))) ⌝ }
 {
     if marks.len() != Number::MARKS {
+        return false;
+    }
+    bits::bits(marks)
+}
+
+// Whether the book and the two buffers of marks lent with it are in form.
+pub fn in_form(b: Book, marks: &[u8], second: &[u8]) -> bool
+    ensures { λ r. ⌜ Decides r (BookForm b (now (marks .entry)) (now (second .entry))) ⌝ }
+{
+    if !marks_ok(marks) {
+        return false;
+    }
+    if !marks_ok(second) {
         return false;
     }
     let t = b.table;
@@ -21,11 +35,12 @@ pub fn in_form(b: Book, marks: &[u8]) -> bool
     if !ascending::conditions_ascend(t) {
         return false;
     }
-    if !bits::bits(marks) {
-        return false;
-    }
     if !bits::bits(&flags) {
         return false;
     }
-    bits::zero_from(&flags, Status::FLAGS * t.count)
+    let n = t.count;
+    if !bits::zero_from(&flags, Status::FLAGS * n) {
+        return false;
+    }
+    changes::apart(&flags, n)
 }

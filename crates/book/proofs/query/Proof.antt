@@ -5,11 +5,11 @@ use Rattle.book.proofs.query.Reads as reads
 use Rattle.book.proofs.query.Lts as lts
 use Rattle.book.proofs.answer_for.Reads as answer-for-reads
 
--- src/lib.rt:136:9
+-- src/lib.rt:202:9
 answer-for-requires : tie.Need-answer-for-requires
 answer-for-requires c κs = search needs
 
--- src/lib.rt:130:1
+-- src/lib.rt:196:1
 returns : tie.Need-returns
 returns c = rw ((c .answer-for) .ensures)
 
