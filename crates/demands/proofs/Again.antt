@@ -2,66 +2,84 @@
 use Prim.Native.Nat.{ℕ}
 use mathlib.Core.Path.{_≡_, sym, ap, subst, _∙_}
 use mathlib.Core.Bool.{Bool, true, cond}
-use mathlib.Core.List.{List, [], _∷_, _++_}
+use mathlib.Core.List.{List}
 use native.Mathlib.Omega.{arith}
 use borrow.Author.Tests.{le-leb}
 use lib.IntN.{pos, _-ℤ_}
 use lib.ListN.{length}
+use Rattle.sorts.specs.declared.Prin.{Prin}
 use Rattle.sorts.specs.declared.Status.{Status}
+use Rattle.sorts.specs.declared.Status.the-variants.{Issued, Provisional}
 use Rattle.rows.specs.Written.{Grant}
 use Rattle.rows.specs.Numbering.{has, number}
 use Rattle.rows.proofs.Known.{numbered-known}
 use Rattle.ranges.specs.Bytes.{got}
 use Rattle.reader.specs.Records.{enter, readCanonical}
 use Rattle.reader.specs.Requests.{fits}
-use Rattle.rules.specs.Standing.{standing}
+use Rattle.machine.specs.Machine.{State, Verdict, Step, changes, change, refuse, act, acted, step, entered, stands}
+use Rattle.machine.proofs.Apart.{Apart, entered-firm, entered-present}
+use Rattle.machine.proofs.Flags.{flags-apart}
+use Rattle.blocks.specs.Gains.{gains}
+use Rattle.marks.specs.Counts.{Statements, truths, sayings, marksOf, changeOf, countsOf}
 use Rattle.book.specs.declared.Book.{Book}
 use Rattle.book.specs.declared.Answer.the-variants.{Changed}
 use Rattle.book.specs.declared.Answered.{Answered}
-use Rattle.book.specs.Machine.{State, Verdict, Step, changes, refuse, act, acted, step, insert, stands}
-use Rattle.blocks.specs.Gains.{gains}
-use Rattle.marks.specs.Counts.{Statements, truths, sayings, marksOf, changeOf, countsOf}
 use Rattle.book.specs.Books.{Shows}
 use Rattle.book.specs.Calls.{answerOf, Called}
 use Rattle.demands.specs.Worth.{unchanged, noCounts}
 use Rattle.demands.proofs.Balance.{none-gained, kind-bits}
 use Rattle.demands.proofs.ClosedBook.{shown}
+use Rattle.demands.proofs.Views.{firm, both, marksIn}
 use Rattle.demands.proofs.Reached.{Reached, fol, reached-after}
 use Rattle.demands.proofs.Unique.{same-book}
 
-module _ {b : Book} {m s : List ℕ} {r : Answered} {n : List ℕ} {M : State} (R : Reached b m M) (C : Called b m s r n) where
-  idle : step M s .says ≡ changes → step M s .next ≡ M →
-      (r .book ≡ b) × (n ≡ m) × (r .answer ≡ Changed noCounts)
+module _ {b : Book} {m k s : List ℕ} {r : Answered} {n l : List ℕ} {M : State} (R : Reached b m k M) (C : Called b m k s r n l) where
+  -- The book and both buffers stay, and nothing is counted.
+  abbrev Idle : Type 0
+  Idle = (r .book ≡ b) × (n ≡ m) × (l ≡ k) × (r .answer ≡ Changed noCounts)
+
+  idle : step M s .says ≡ changes → step M s .next ≡ M → Idle
   unfolding answerOf countsOf changeOf
   idle e h =
       let F = fol R C in
+      let A = reached-after R C in
       let book : r .book ≡ b = same-book (F .form) (R .form) (subst (Shows (r .book)) h (F .shows)) (R .shows) in
-      let marks : n ≡ m = reached-after R C .stands ∙ ap (λ (x : Book). standing (x .table .rows) (x .flags)) book ∙ sym (R .stands) in
-      let z : (k : Statements) → gains (marksOf k m) (marksOf k m) ≡ 0 = λ k. none-gained (marksOf k m) (marksOf k m) (kind-bits k m (R .form .markBits)) (kind-bits k m (R .form .markBits)) (λ i x. x) in
-      let same : (k : Statements) → changeOf (marksOf k m) (marksOf k m) ≡ unchanged = λ k i. record { gained = z k i; lost = z k i; net = pos (z k i) -ℤ pos (z k i) } in (
+      let marks : n ≡ m = A .stands ∙ ap (marksIn firm) book ∙ sym (R .stands) in
+      let second : l ≡ k = A .second ∙ ap (marksIn both) book ∙ sym (R .second) in
+      let z : (j : Statements) → gains (marksOf j m) (marksOf j m) ≡ 0 = λ j. none-gained (marksOf j m) (marksOf j m) (kind-bits j m (R .form .marks .bits)) (kind-bits j m (R .form .marks .bits)) (λ i x. x) in
+      let same : (j : Statements) → changeOf (marksOf j m) (marksOf j m) ≡ unchanged = λ j i. record { gained = z j i; lost = z j i; net = pos (z j i) -ℤ pos (z j i) } in (
         book,
         marks,
-        F .answer ∙ ap (λ (v : Verdict). answerOf v m n) e ∙ ap (λ (l : List ℕ). Changed (countsOf m l)) marks ∙
+        second,
+        F .answer ∙ ap (λ (v : Verdict). answerOf v m k n) e ∙ ap (λ (x : List ℕ). Changed (countsOf m x)) marks ∙
             (λ i. Changed (record { truths = same truths i; sayings = same sayings i })),
       )
 
   room : fits (M .N) ≡ true
-  room = let S = shown b m M (R .form) (R .shows) in le-leb (length (M .N)) 64 (let c = S .counted in let d = R .form .table .count in omega (arith, c, d))
+  room = let S = shown b m k M (R .form) (R .shows) in le-leb (length (M .N)) 64 (let c = S .counted in let d = R .form .table .count in omega (arith, c, d))
 
   known : (g : Grant) → has g (M .N) ≡ true → number g (M .N) ≡ M .N
-  known g = numbered-known (shown b m M (R .form) (R .shows)) g
+  known g = numbered-known (shown b m k M (R .form) (R .shows)) g
 
-  pub enter-again : (by : Status) (g : Grant) (k : ℕ) → readCanonical s ≡ got (enter by g) k → stands M by g ≡ true →
-      (r .book ≡ b) × (n ≡ m) × (r .answer ≡ Changed noCounts)
-  unfolding insert step act
-  enter-again by g k e t = idle (ap (λ (x : Step). x .says) all) (ap (λ (x : Step). x .next) all)
+  -- no licence is both firm and provisional
+  apart : Apart (M .entries)
+  apart = flags-apart (M .N) (b .flags) (M .entries) (record { long = R .form .flags; show = R .shows .flags; within = R .shows .within }) (R .form .apart)
+
+  -- a grant that has a number and whose entry changes nothing
+  entered-idle : (by : Status) (g : Grant) (u : ℕ) → readCanonical s ≡ got (enter by g) u → has g (M .N) ≡ true → entered by g (M .entries) ≡ M .entries → Idle
+  unfolding step act
+  entered-idle by g u e t same = idle (ap (λ (x : Step). x .says) all) (ap (λ (x : Step). x .next) all)
     where
-      same : insert (record { by = by; what = g }) (M .entries) ≡ M .entries
-      same = ap (λ (c : Bool). cond c (M .entries) (M .entries ++ (record { by = by; what = g } ∷ []))) t
-
       numbered : number g (M .N) ≡ M .N
-      numbered = known g (R .shows .within by g t .0)
+      numbered = known g t
 
-      all : step M s ≡ record { next = M; says = changes; used = k }
-      all = ap (acted M) e ∙ ap (λ (c : Bool). cond c (record { next = record { entries = insert (record { by = by; what = g }) (M .entries); N = number g (M .N) }; says = changes; used = k }) (refuse M 6 k)) (ap (λ (l : List Grant). fits l) numbered ∙ room) ∙
-          (λ i. record { next = record { entries = same i; N = numbered i }; says = changes; used = k })
+      all : step M s ≡ record { next = M; says = changes; used = u }
+      all = ap (acted M) e ∙ ap (λ (c : Bool). cond c (change (entered by g (M .entries)) (number g (M .N)) u) (refuse M 6 u)) (ap (λ (x : List Grant). fits x) numbered ∙ room) ∙
+          (λ i. change (same i) (numbered i) u)
+
+  pub enter-again : (by : Status) (g : Grant) (u : ℕ) → readCanonical s ≡ got (enter by g) u → stands M by g ≡ true → Idle
+  enter-again by g u e t = entered-idle by g u e (R .shows .within by g t .0) (entered-present (M .entries) apart g by t)
+
+  -- "PL of a firm licence leaves it firm"
+  pub provisional-again : (p : Prin) (g : Grant) (u : ℕ) → readCanonical s ≡ got (enter (Provisional p) g) u → stands M (Issued p) g ≡ true → Idle
+  provisional-again p g u e t = entered-idle (Provisional p) g u e (R .shows .within (Issued p) g t .0) (entered-firm (M .entries) apart g p t)

@@ -6,27 +6,29 @@ use mathlib.Core.Bool.{Bool, true, false, cond}
 use mathlib.Core.List.{List, [], _∷_}
 use mathlib.Core.Logic.{_⊎_, inl, inr}
 use native.Mathlib.Omega.{arith}
+use Rattle.sorts.specs.declared.Prin.{Prin}
 use Rattle.sorts.specs.declared.Status.{Status}
+use Rattle.sorts.specs.declared.Status.the-variants.{Provisional}
 use Rattle.rows.specs.Written.{Grant, perm, issue}
 use Rattle.rows.specs.Numbering.{place, number, numberConcl}
 use Rattle.ranges.specs.Bytes.{Outcome, got, refused}
 use Rattle.canon.specs.Canon.{canon, same}
 use Rattle.canon.proofs.Sets.{same-canon}
-use Rattle.reader.specs.Records.{Record, enter, remove, query, readRecord, readCanonical, canonRecord}
+use Rattle.reader.specs.Records.{Record, enter, remove, confirm, query, readRecord, readCanonical, canonRecord}
 use Rattle.reader.specs.Requests.{fits}
 use Rattle.exact.proofs.CanonicalRecords.{canonical-of}
 use Rattle.book.specs.declared.Book.{Book}
 use Rattle.book.specs.declared.Answer.{Answer}
 use Rattle.book.specs.declared.Answered.{Answered}
-use Rattle.book.specs.Machine.{State, Verdict, Step, act, acted, step, stands}
+use Rattle.machine.specs.Machine.{State, Verdict, Step, act, acted, step, stands, there}
 use Rattle.book.specs.Books.{BookForm, Shows}
-use Rattle.book.specs.Calls.{answerOf, marksAfter, Called}
+use Rattle.book.specs.Calls.{answerOf, marksAfter, secondAfter, Called}
 use Rattle.book.specs.Chains.{Call, Chain, none, then, records, runs}
 use Rattle.demands.specs.Alike.{asked, Alike, AllAlike, answered}
 use Rattle.demands.proofs.Shown.{shows-some}
 use Rattle.demands.proofs.Unique.{same-book}
 
--- the premise is met: by grants that are the same, entered, removed, or asked about
+-- the premise is met: by grants that are the same, entered, removed, confirmed, or asked about
 module _ (s t : List ℕ) (g h : Grant) (m n : ℕ) (e : same g h ≡ true) where
   alike-at : (r : Grant → Record) → canonRecord (r g) ≡ canonRecord (r h) → readRecord s ≡ got (r g) m → readRecord t ≡ got (r h) n → Alike s t
   alike-at r q a b = ap asked (canonical-of s (r g) m a) ∙ ap (λ (x : Record). got x 0) q ∙ sym (ap asked (canonical-of t (r h) n b))
@@ -36,6 +38,9 @@ module _ (s t : List ℕ) (g h : Grant) (m n : ℕ) (e : same g h ≡ true) wher
 
   pub alike-remove : (by : Status) → readRecord s ≡ got (remove by g) m → readRecord t ≡ got (remove by h) n → Alike s t
   alike-remove by = alike-at (remove by) (ap (remove by) (same-canon g h e))
+
+  pub alike-confirm : (p : Prin) → readRecord s ≡ got (confirm p g) m → readRecord t ≡ got (confirm p h) n → Alike s t
+  alike-confirm p = alike-at (confirm p) (ap (confirm p) (same-canon g h e))
 
   pub alike-query : (p : ℕ) → readRecord s ≡ got (query (perm p (issue g))) m → readRecord t ≡ got (query (perm p (issue h))) n → Alike s t
   unfolding canon
@@ -61,7 +66,8 @@ itself = record { next = refl; says = refl }
 act-same : (M : State) (r : Record) (m n : ℕ) → SameStep (act M r m) (act M r n)
 unfolding act
 act-same M (enter by g) m n = picked (fits (number g (M .N))) _ _ _ _ itself itself
-act-same M (remove by g) m n = picked (stands M by g) _ _ _ _ itself itself
+act-same M (remove by g) m n = picked (there by g (M .entries)) _ _ _ _ itself itself
+act-same M (confirm p g) m n = picked (stands M (Provisional p) g) _ _ _ _ itself itself
 act-same M (query c) m n = picked (fits (numberConcl c (M .N))) _ _ _ _ itself itself
 
 acted-same : (M : State) (o p : Outcome Record) → asked o ≡ asked p → SameStep (acted M o) (acted M p)
@@ -83,41 +89,55 @@ runs-alike M (s ∷ ss) [] h = absurd h
 runs-alike M (s ∷ ss) (t ∷ ts) h = ap (λ (K : State). runs K ss) (step-same M s t (h .0) .next) ∙ runs-alike (step M t .next) ss ts (h .1)
 
 -- Two calls on one book, in form or not: the answers, books and marks are the same.
-pub record SameCall (r r′ : Answered) (n n′ : List ℕ) : Type 0 where
+pub record SameCall (r r′ : Answered) (n n′ l l′ : List ℕ) : Type 0 where
   pub book : r .book ≡ r′ .book
   pub answer : r .answer ≡ r′ .answer
   pub marks : n ≡ n′
+  pub second : l ≡ l′
 
-module _ (b : Book) (m s t : List ℕ) (e : Alike s t) (r r′ : Answered) (n n′ : List ℕ) (C : Called b m s r n) (D : Called b m t r′ n′) where
-  formed : (M : State) → BookForm b m → Shows b M → SameCall r r′ n n′
+module _ (b : Book) (m k s t : List ℕ) (e : Alike s t) (r r′ : Answered) (n n′ l l′ : List ℕ) (C : Called b m k s r n l) (D : Called b m k t r′ n′ l′) where
+  formed : (M : State) → BookForm b m k → Shows b M → SameCall r r′ n n′ l l′
   formed M f sh =
       let F = C .formed f M sh in
       let G = D .formed f M sh in
       let S = step-same M s t e in
       let book : r .book ≡ r′ .book = same-book (F .form) (G .form) (F .shows) (subst (Shows (r′ .book)) (sym (S .next)) (G .shows)) in
       let marks : n ≡ n′ = F .marks ∙ ap₂ (λ (v : Verdict) (x : Book). marksAfter v x m) (S .says) book ∙ sym (G .marks) in
-      record { book = book; answer = F .answer ∙ ap₂ (λ (v : Verdict) (l : List ℕ). answerOf v m l) (S .says) marks ∙ sym (G .answer); marks = marks }
+      let second : l ≡ l′ = F .second ∙ ap₂ (λ (v : Verdict) (x : Book). secondAfter v x k) (S .says) book ∙ sym (G .second) in
+      record {
+        book = book;
+        answer = F .answer ∙ ap₂ (λ (v : Verdict) (x : List ℕ). answerOf v m k x) (S .says) marks ∙ sym (G .answer);
+        marks = marks;
+        second = second;
+      }
 
-  pub alike-call : SameCall r r′ n n′
+  pub alike-call : SameCall r r′ n n′ l l′
   alike-call = by (C .decided)
     where
-      by : BookForm b m ⊎ (BookForm b m → ⊥) → SameCall r r′ n n′
-      by (inl f) = let w = shows-some b m f in formed (w .0) f (w .1)
+      by : BookForm b m k ⊎ (BookForm b m k → ⊥) → SameCall r r′ n n′ l l′
+      by (inl f) = let w = shows-some b m k f in formed (w .0) f (w .1)
       by (inr d) =
           let x = C .unformed d in
           let y = D .unformed d in
           let z : r ≡ r′ = x .0 ∙ sym (y .0) in
-          record { book = ap (λ (a : Answered). a .book) z; answer = ap (λ (a : Answered). a .answer) z; marks = x .1 ∙ sym (y .1) }
+          record {
+            book = ap (λ (a : Answered). a .book) z;
+            answer = ap (λ (a : Answered). a .answer) z;
+            marks = x .1 ∙ sym (y .1);
+            second = x .2 ∙ sym (y .2);
+          }
 
 -- Two lists of calls from one book: the same answers, and they end in the same book and marks.
-pub alike-calls : {b b′ b″ : Book} {m m′ m″ : List ℕ} {cs ds : List Call} → Chain b m cs b′ m′ → Chain b m ds b″ m″ → AllAlike (records cs) (records ds) →
-    (b′ ≡ b″) × (m′ ≡ m″) × (answered cs ≡ answered ds)
+pub alike-calls : {b b′ b″ : Book} {m m′ m″ k k′ k″ : List ℕ} {cs ds : List Call} → Chain b m k cs b′ m′ k′ → Chain b m k ds b″ m″ k″ → AllAlike (records cs) (records ds) →
+    (b′ ≡ b″) × (m′ ≡ m″) × (k′ ≡ k″) × (answered cs ≡ answered ds)
 unfolding records answered
-alike-calls none none h = (refl, refl, refl)
-alike-calls none (then t r′ n′ D L) h = absurd h
-alike-calls (then s r n C K) none h = absurd h
-alike-calls {b} {b′} {b″} {m} {m′} {m″} (then {cs = cs} s r n C K) (then {cs = ds} t r′ n′ D L) h =
-    let S = alike-call b m s t (h .0) r r′ n n′ C D in
-    let L′ : Chain (r .book) n ds b″ m″ = subst (λ (x : Book). Chain x n ds b″ m″) (sym (S .book)) (subst (λ (l : List ℕ). Chain (r′ .book) l ds b″ m″) (sym (S .marks)) L) in
+alike-calls none none h = (refl, refl, refl, refl)
+alike-calls none (then t r′ n′ l′ D L) h = absurd h
+alike-calls (then s r n l C K) none h = absurd h
+alike-calls {b} {b′} {b″} {m} {m′} {m″} {k} {k′} {k″} (then {cs = cs} s r n l C K) (then {cs = ds} t r′ n′ l′ D L) h =
+    let S = alike-call b m k s t (h .0) r r′ n n′ l l′ C D in
+    let L′ : Chain (r .book) n l ds b″ m″ k″ =
+    subst (λ (x : Book). Chain x n l ds b″ m″ k″) (sym (S .book))
+    (subst (λ (x : List ℕ). Chain (r′ .book) x l ds b″ m″ k″) (sym (S .marks)) (subst (λ (x : List ℕ). Chain (r′ .book) n′ x ds b″ m″ k″) (sym (S .second)) L)) in
     let z = alike-calls K L′ (h .1) in
-    (z .0, z .1, ap₂ (λ (a : Answer) (l : List Answer). a ∷ l) (S .answer) (z .2))
+    (z .0, z .1, z .2, ap₂ (λ (a : Answer) (l : List Answer). a ∷ l) (S .answer) (z .3))

@@ -9,29 +9,33 @@ use native.Mathlib.Omega.{arith}
 use lib.IntN.{pos, _-ℤ_}
 use lib.ListN.{getD}
 use lib.Dec.{eqb}
+use Rattle.sorts.specs.declared.Status.the-variants.{Provisional}
 use Rattle.rows.specs.Numbering.{number, numberConcl}
 use Rattle.rows.proofs.Bytes.{no-true}
 use Rattle.ranges.specs.Bytes.{Outcome, got, refused}
-use Rattle.reader.specs.Records.{Record, enter, remove, query, readCanonical}
+use Rattle.reader.specs.Records.{Record, enter, remove, confirm, query, readCanonical}
 use Rattle.reader.specs.Requests.{fits}
 use Rattle.book.specs.declared.Book.{Book}
 use Rattle.marks.specs.declared.Counts.{Counts}
 use Rattle.book.specs.declared.Answer.{Answer}
-use Rattle.book.specs.declared.Answer.the-variants.{Permitted, NotPermitted, Changed, Refused}
+use Rattle.book.specs.declared.Answer.the-variants.{Permitted, Open, NotPermitted, Changed, Refused}
 use Rattle.book.specs.declared.Answered.{Answered}
-use Rattle.book.specs.Machine.{State, Step, Verdict, changes, asks, refuses, refuse, act, acted, step, stands}
+use Rattle.machine.specs.Machine.{State, Step, Verdict, changes, asks, refuses, refuse, act, acted, step, stands, there}
 use Rattle.marks.specs.Counts.{Statements, truths, sayings, changeOf, countsOf}
 use Rattle.demands.specs.Worth.{worth, reported}
 use Rattle.book.specs.Books.{BookForm}
-use Rattle.book.specs.Calls.{answerOf, marksAfter, Follows, Called}
+use Rattle.book.specs.Calls.{answerAt, answerOf, marksAfter, secondAfter, Follows, Called}
 use Rattle.demands.specs.Demands.{Turned, Answers, Demand1}
 use Rattle.exact.proofs.CanonicalRecords.{canonical-refused}
 use Rattle.exact.proofs.Faults.{fault-range}
 use Rattle.demands.proofs.Shown.{shows-some}
-use Rattle.demands.proofs.Demand2.{answer-yes, answer-no}
+use Rattle.demands.proofs.Demand2.{answer-yes, answer-maybe, answer-no}
 
 both-ways : {A B C : Type 0} → A ↔ B → B ↔ C → A ↔ C
 both-ways p q = (λ a. q .0 (p .0 a), λ c. p .1 (q .1 c))
+
+flat : {A P Q : ℕ → Type 0} → ((c : ℕ) × A c × (P c × Q c)) ↔ ((c : ℕ) × A c × P c × Q c)
+flat = (λ h. (h .0, h .1, h .2 .0, h .2 .1), λ h. (h .0, h .1, (h .2, h .3)))
 
 -- the answers with a number are the refusals
 number-is : (a : Answer) (k : ℕ) → (worth a .number ≡ some k) ↔ (a ≡ Refused k)
@@ -39,6 +43,7 @@ number-is a k = (go a, λ e. ap (λ (x : Answer). worth x .number) e)
   where
     go : (x : Answer) → worth x .number ≡ some k → x ≡ Refused k
     go Permitted e = let z : _≡_ {A = ℕ} 0 1 = cc in absurd (omega arith)
+    go Open e = let z : _≡_ {A = ℕ} 0 1 = cc in absurd (omega arith)
     go NotPermitted e = let z : _≡_ {A = ℕ} 0 1 = cc in absurd (omega arith)
     go (Changed c) e = let z : _≡_ {A = ℕ} 0 1 = cc in absurd (omega arith)
     go (Refused j) e = let d : j ≡ k = cc in ap Refused d
@@ -57,7 +62,8 @@ module _ (M : State) (k : ℕ) where
   turned : (o : Outcome Record) → (acted M o .says ≡ refuses k) ↔ Turned M o k
   unfolding act
   turned (got (enter by g) n) = two _ accepts 6 n (fits (number g (M .N)))
-  turned (got (remove by g) n) = two _ accepts 7 n (stands M by g)
+  turned (got (remove by g) n) = two _ accepts 7 n (there by g (M .entries))
+  turned (got (confirm p g) n) = two _ accepts 7 n (stands M (Provisional p) g)
   turned (got (query c) n) = two _ (λ i e. let z : _≡_ {A = ℕ} 0 1 = cc in omega arith) 6 n (fits (numberConcl c (M .N)))
   turned (refused j) = (λ e. let d : j ≡ k = cc in d, λ h. ap refuses h)
 
@@ -65,6 +71,7 @@ module _ (M : State) (k : ℕ) where
   turned-range : (s : List ℕ) (o : Outcome Record) → readCanonical s ≡ o → Turned M o k → (1 ≤ k) × (k ≤ 7)
   turned-range s (got (enter by g) n) e h = (omega (arith, h .1), omega (arith, h .1))
   turned-range s (got (remove by g) n) e h = (omega (arith, h .1), omega (arith, h .1))
+  turned-range s (got (confirm p g) n) e h = (omega (arith, h .1), omega (arith, h .1))
   turned-range s (got (query c) n) e h = (omega (arith, h .1), omega (arith, h .1))
   turned-range s (refused j) e h = let f = fault-range s j (canonical-refused s j e) in (omega (arith, h, f .0), omega (arith, h, f .1))
 
@@ -77,103 +84,104 @@ refused-net : (j : ℕ) → Net (Refused j)
 refused-net j truths = refl
 refused-net j sayings = refl
 
-module _ (m n : List ℕ) where
-  answer-net : (v : Verdict) → Net (answerOf v m n)
+asked-net : (b c : Bool) → Net (cond b Permitted (cond c Open NotPermitted))
+asked-net true c truths = refl
+asked-net true c sayings = refl
+asked-net false true truths = refl
+asked-net false true sayings = refl
+asked-net false false truths = refl
+asked-net false false sayings = refl
+
+-- an answer to a query is no change and no refusal
+abbrev Queried : Answer → Type 0
+Queried Permitted = Unit {0}
+Queried Open = Unit {0}
+Queried NotPermitted = Unit {0}
+Queried (Changed c) = ⊥
+Queried (Refused j) = ⊥
+
+at-queried : (m k : List ℕ) (c : ℕ) → Queried (answerAt m k c)
+at-queried m k c = go (eqb (getD m c 0) 1) (eqb (getD k c 0) 1)
+  where
+    go : (a b : Bool) → Queried (cond a Permitted (cond b Open NotPermitted))
+    go true b = tt
+    go false true = tt
+    go false false = tt
+
+-- an answer to a query, by the verdict: what is said where the machine asks for c, and the marks of c are so
+module _ (m k n : List ℕ) (a : Answer) (is : Queried a) (P : ℕ → Type 0) (at : (c : ℕ) → (answerAt m k c ≡ a) ↔ P c) where
+  answer-asked : (v : Verdict) → (answerOf v m k n ≡ a) ↔ ((c : ℕ) × (v ≡ asks c) × P c)
+  unfolding answerOf
+  answer-asked changes = (λ e. absurd (subst Queried (sym e) is), λ h. let e = h .1 in let z : _≡_ {A = ℕ} 0 1 = cc in absurd (omega arith))
+  answer-asked (asks c) = (λ e. (c, refl, at c .0 e), λ h. let e = h .1 in let d : c ≡ h .0 = cc in at c .1 (subst P (sym d) (h .2)))
+  answer-asked (refuses j) = (λ e. absurd (subst Queried (sym e) is), λ h. let e = h .1 in let z : _≡_ {A = ℕ} 0 1 = cc in absurd (omega arith))
+
+module _ (m k n : List ℕ) where
+  answer-net : (v : Verdict) → Net (answerOf v m k n)
   unfolding answerOf countsOf changeOf
   answer-net changes truths = refl
   answer-net changes sayings = refl
-  answer-net (asks c) k = go k (eqb (getD m c 0) 1)
-    where
-      go : (k : Statements) (b : Bool) → reported k (cond b Permitted NotPermitted) .net ≡ pos (reported k (cond b Permitted NotPermitted) .gained) -ℤ pos (reported k (cond b Permitted NotPermitted) .lost)
-      go truths true = refl
-      go truths false = refl
-      go sayings true = refl
-      go sayings false = refl
-  answer-net (refuses j) k = refused-net j k
+  answer-net (asks c) j = asked-net (eqb (getD m c 0) 1) (eqb (getD k c 0) 1) j
+  answer-net (refuses i) j = refused-net i j
 
-  answer-refused : (v : Verdict) (k : ℕ) → (answerOf v m n ≡ Refused k) ↔ (v ≡ refuses k)
+  answer-refused : (v : Verdict) (j : ℕ) → (answerOf v m k n ≡ Refused j) ↔ (v ≡ refuses j)
   unfolding answerOf
-  answer-refused changes k = (λ e. let z : _≡_ {A = ℕ} 0 1 = cc in absurd (omega arith), λ e. let z : _≡_ {A = ℕ} 0 1 = cc in absurd (omega arith))
-  answer-refused (asks c) k = (go (eqb (getD m c 0) 1), λ e. let z : _≡_ {A = ℕ} 0 1 = cc in absurd (omega arith))
-    where
-      go : (b : Bool) → cond b Permitted NotPermitted ≡ Refused k → asks c ≡ refuses k
-      go true e = let z : _≡_ {A = ℕ} 0 1 = cc in absurd (omega arith)
-      go false e = let z : _≡_ {A = ℕ} 0 1 = cc in absurd (omega arith)
-  answer-refused (refuses j) k = (λ e. let d : j ≡ k = cc in ap refuses d, λ e. let d : j ≡ k = cc in ap Refused d)
+  answer-refused changes j = (λ e. let z : _≡_ {A = ℕ} 0 1 = cc in absurd (omega arith), λ e. let z : _≡_ {A = ℕ} 0 1 = cc in absurd (omega arith))
+  answer-refused (asks c) j = (λ e. absurd (subst Queried e (at-queried m k c)), λ e. let z : _≡_ {A = ℕ} 0 1 = cc in absurd (omega arith))
+  answer-refused (refuses i) j = (λ e. let d : i ≡ j = cc in ap refuses d, λ e. let d : i ≡ j = cc in ap Refused d)
 
-  answer-permitted : (v : Verdict) → (answerOf v m n ≡ Permitted) ↔ ((c : ℕ) × (v ≡ asks c) × (getD m c 0 ≡ 1))
-  unfolding answerOf
-  answer-permitted changes = (λ e. let z : _≡_ {A = ℕ} 0 1 = cc in absurd (omega arith), λ h. let e = h .1 in let z : _≡_ {A = ℕ} 0 1 = cc in absurd (omega arith))
-  answer-permitted (asks c) = (
-    λ e. (c, refl, answer-yes (getD m c 0) .0 e),
-    λ h. let e = h .1 in let d : c ≡ h .0 = cc in answer-yes (getD m c 0) .1 (ap (λ (i : ℕ). getD m i 0) d ∙ h .2),
-  )
-  answer-permitted (refuses j) = (λ e. let z : _≡_ {A = ℕ} 0 1 = cc in absurd (omega arith), λ h. let e = h .1 in let z : _≡_ {A = ℕ} 0 1 = cc in absurd (omega arith))
-
-  answer-denied : (v : Verdict) → (answerOf v m n ≡ NotPermitted) ↔ ((c : ℕ) × (v ≡ asks c) × (getD m c 0 ≡ 1 → ⊥))
-  unfolding answerOf
-  answer-denied changes = (λ e. let z : _≡_ {A = ℕ} 0 1 = cc in absurd (omega arith), λ h. let e = h .1 in let z : _≡_ {A = ℕ} 0 1 = cc in absurd (omega arith))
-  answer-denied (asks c) = (
-    λ e. (c, refl, answer-no (getD m c 0) .0 e),
-    λ h. let e = h .1 in let d : c ≡ h .0 = cc in answer-no (getD m c 0) .1 (λ q. h .2 (ap (λ (i : ℕ). getD m i 0) (sym d) ∙ q)),
-  )
-  answer-denied (refuses j) = (λ e. let z : _≡_ {A = ℕ} 0 1 = cc in absurd (omega arith), λ h. let e = h .1 in let z : _≡_ {A = ℕ} 0 1 = cc in absurd (omega arith))
-
-  answer-changed : (v : Verdict) (x : Counts) → (answerOf v m n ≡ Changed x) ↔ ((v ≡ changes) × (x ≡ countsOf m n))
+  answer-changed : (v : Verdict) (x : Counts) → (answerOf v m k n ≡ Changed x) ↔ ((v ≡ changes) × (x ≡ countsOf m n))
   unfolding answerOf
   answer-changed changes x = (λ e. let d : countsOf m n ≡ x = cc in (refl, sym d), λ h. ap Changed (sym (h .1)))
-  answer-changed (asks c) x = (go (eqb (getD m c 0) 1), λ h. let e = h .0 in let z : _≡_ {A = ℕ} 0 1 = cc in absurd (omega arith))
-    where
-      go : (b : Bool) → cond b Permitted NotPermitted ≡ Changed x → (asks c ≡ changes) × (x ≡ countsOf m n)
-      go true e = let z : _≡_ {A = ℕ} 0 1 = cc in absurd (omega arith)
-      go false e = let z : _≡_ {A = ℕ} 0 1 = cc in absurd (omega arith)
+  answer-changed (asks c) x = (λ e. absurd (subst Queried e (at-queried m k c)), λ h. let e = h .0 in let z : _≡_ {A = ℕ} 0 1 = cc in absurd (omega arith))
   answer-changed (refuses j) x = (λ e. let z : _≡_ {A = ℕ} 0 1 = cc in absurd (omega arith), λ h. let e = h .0 in let z : _≡_ {A = ℕ} 0 1 = cc in absurd (omega arith))
 
-module _ {M : State} {b : Book} {m s : List ℕ} {r : Answered} {n : List ℕ} (F : Follows M b m s r n) where
+module _ {M : State} {b : Book} {m k s : List ℕ} {r : Answered} {n l : List ℕ} (F : Follows M b m k s r n l) where
   -- the answer in place of what it equals
-  as-answer : (a : Answer) → (r .answer ≡ a) ↔ (answerOf (step M s .says) m n ≡ a)
+  as-answer : (a : Answer) → (r .answer ≡ a) ↔ (answerOf (step M s .says) m k n ≡ a)
   as-answer a = (λ e. sym (F .answer) ∙ e, λ e. F .answer ∙ e)
 
   -- a number that is said is the machine's
-  as-number : (k : ℕ) → (worth (r .answer) .number ≡ some k) ↔ (step M s .says ≡ refuses k)
-  as-number k = both-ways (number-is (r .answer) k) (both-ways (as-answer (Refused k)) (answer-refused m n (step M s .says) k))
+  as-number : (j : ℕ) → (worth (r .answer) .number ≡ some j) ↔ (step M s .says ≡ refuses j)
+  as-number j = both-ways (number-is (r .answer) j) (both-ways (as-answer (Refused j)) (answer-refused m k n (step M s .says) j))
 
-  answers : Answers M b m s r n
-  unfolding step marksAfter
+  answers : Answers M b m k s r n l
+  unfolding step marksAfter secondAfter
   answers = record {
-    refusals = λ k. both-ways (as-number k) (turned M k (readCanonical s));
-    permitted = both-ways (as-answer Permitted) (answer-permitted m n (step M s .says));
-    notPermitted = both-ways (as-answer NotPermitted) (answer-denied m n (step M s .says));
-    changed = λ x. both-ways (as-answer (Changed x)) (answer-changed m n (step M s .says) x);
+    refusals = λ j. both-ways (as-number j) (turned M j (readCanonical s));
+    permitted = both-ways (as-answer Permitted) (answer-asked m k n Permitted tt _ (λ c. answer-yes (getD m c 0) (getD k c 0)) (step M s .says));
+    undecided = both-ways (as-answer Open) (both-ways (answer-asked m k n Open tt _ (λ c. answer-maybe (getD m c 0) (getD k c 0)) (step M s .says)) flat);
+    notPermitted = both-ways (as-answer NotPermitted) (both-ways (answer-asked m k n NotPermitted tt _ (λ c. answer-no (getD m c 0) (getD k c 0)) (step M s .says)) flat);
+    changed = λ x. both-ways (as-answer (Changed x)) (answer-changed m k n (step M s .says) x);
     used = F .used;
-    kept = λ k e.
-        let v = as-number k .0 e in
-        (F .kept k v, F .marks ∙ ap (λ (w : Verdict). marksAfter w (r .book) m) v);
-    numbered = λ k e. turned-range M k s (readCanonical s) refl (turned M k (readCanonical s) .0 (as-number k .0 e));
+    kept = λ j e.
+        let v = as-number j .0 e in
+        (F .kept j v, F .marks ∙ ap (λ (w : Verdict). marksAfter w (r .book) m) v, F .second ∙ ap (λ (w : Verdict). secondAfter w (r .book) k) v);
+    numbered = λ j e. turned-range M j s (readCanonical s) refl (turned M j (readCanonical s) .0 (as-number j .0 e));
   }
 
 -- Every record of bytes and every lent book gets an answer, each under its condition and no other; a refused record leaves
 -- every part of the book unchanged.
-pub demand-1 : (b : Book) (m s : List ℕ) (r : Answered) (n : List ℕ) → Called b m s r n → Demand1 b m s r n
-demand-1 b m s r n C = record {
+pub demand-1 : (b : Book) (m k s : List ℕ) (r : Answered) (n l : List ℕ) → Called b m k s r n l → Demand1 b m k s r n l
+demand-1 b m k s r n l C = record {
   unformed = C .unformed;
   formed = λ f M sh. answers (C .formed f M sh);
-  shown = λ f. shows-some b m f;
+  shown = λ f. shows-some b m k f;
   nine = (λ e f. let h = in-range f 9 e in omega (arith, h .1), out);
   numbered = by (C .decided);
   net = net-by (C .decided);
 }
   where
-    in-range : BookForm b m → (k : ℕ) → worth (r .answer) .number ≡ some k → (1 ≤ k) × (k ≤ 7)
-    in-range f = let w = shows-some b m f in answers (C .formed f (w .0) (w .1)) .numbered
+    in-range : BookForm b m k → (j : ℕ) → worth (r .answer) .number ≡ some j → (1 ≤ j) × (j ≤ 7)
+    in-range f = let w = shows-some b m k f in answers (C .formed f (w .0) (w .1)) .numbered
 
-    out : (BookForm b m → ⊥) → worth (r .answer) .number ≡ some 9
+    out : (BookForm b m k → ⊥) → worth (r .answer) .number ≡ some 9
     out d = ap (λ (x : Answered). worth (x .answer) .number) (C .unformed d .0)
 
-    by : BookForm b m ⊎ (BookForm b m → ⊥) → (k : ℕ) → worth (r .answer) .number ≡ some k → (1 ≤ k) × (k ≤ 9) × (k ≡ 8 → ⊥)
-    by (inl f) k e = let h = in-range f k e in (h .0, omega (arith, h .1), λ q. omega (arith, h .1, q))
-    by (inr d) k e = let q : some 9 ≡ some k = sym (out d) ∙ e in let z : 9 ≡ k = cc in (omega (arith, z), omega (arith, z), λ x. omega (arith, z, x))
+    by : BookForm b m k ⊎ (BookForm b m k → ⊥) → (j : ℕ) → worth (r .answer) .number ≡ some j → (1 ≤ j) × (j ≤ 9) × (j ≡ 8 → ⊥)
+    by (inl f) j e = let h = in-range f j e in (h .0, omega (arith, h .1), λ q. omega (arith, h .1, q))
+    by (inr d) j e = let q : some 9 ≡ some j = sym (out d) ∙ e in let z : 9 ≡ j = cc in (omega (arith, z), omega (arith, z), λ x. omega (arith, z, x))
 
-    net-by : BookForm b m ⊎ (BookForm b m → ⊥) → Net (r .answer)
-    net-by (inl f) = let w = shows-some b m f in subst Net (sym (C .formed f (w .0) (w .1) .answer)) (answer-net m n (step (w .0) s .says))
+    net-by : BookForm b m k ⊎ (BookForm b m k → ⊥) → Net (r .answer)
+    net-by (inl f) = let w = shows-some b m k f in subst Net (sym (C .formed f (w .0) (w .1) .answer)) (answer-net m k n (step (w .0) s .says))
     net-by (inr d) = subst Net (sym (ap (λ (x : Answered). x .answer) (C .unformed d .0))) (refused-net 9)

@@ -4,69 +4,114 @@ use mathlib.Core.Path.{_≡_, sym, ap, subst, _∙_}
 use mathlib.Core.Bool.{Bool, cond}
 use mathlib.Core.List.{List}
 use mathlib.Core.Logic.{_↔_}
-use native.Mathlib.Omega.{arith}
 use native.Mathlib.Decide.{ℕ-discrete}
 use lib.ListN.{getD}
 use lib.Dec.{eqb}
 use borrow.Author.Tests.{eq-eqb, ne-eqb}
-use Rattle.rules.specs.Standing.{In, standing}
+use Rattle.rules.specs.Standing.{In}
+use Rattle.machine.specs.Machine.{State, Verdict, asks, start, step}
+use Rattle.machine.specs.Closed.{ClosedSet, Lacking}
+use Rattle.machine.proofs.Choices.{permitted-none, not-permitted-all, open-both}
 use Rattle.book.specs.declared.Book.{Book}
-use Rattle.book.specs.declared.Answer.the-variants.{Permitted, NotPermitted}
+use Rattle.book.specs.declared.Answer.{Answer}
+use Rattle.book.specs.declared.Answer.the-variants.{Permitted, Open, NotPermitted, Changed, Refused}
 use Rattle.book.specs.declared.Answered.{Answered}
-use Rattle.book.specs.Machine.{Verdict, asks, start, step}
-use Rattle.book.specs.Closed.{ClosedSet, Lacking}
-use Rattle.book.specs.Calls.{answerOf, marksAfter, Called}
+use Rattle.book.specs.Calls.{answerAt, answerOf, marksAfter, secondAfter, Called}
 use Rattle.book.specs.Chains.{freshBook, freshMarks, Call, Chain, records, runs}
 use Rattle.demands.specs.Demands.{Demand2}
+use Rattle.demands.proofs.Views.{View, firm, both, choiceOf, marksIn}
 use Rattle.demands.proofs.ClosedBook.{stands-in, stands-out}
-use Rattle.demands.proofs.Reached.{fresh-reached, fol, reached-after}
-use Rattle.demands.proofs.Demand3.{after}
+use Rattle.demands.proofs.Reached.{Reached, fresh-reached, fol, reached-after}
+use Rattle.demands.proofs.Demand3.{after, mark-stands}
 
--- the two answers of a query, by its mark
+-- the three answers of a query, by its two marks
+module _ (x y : ℕ) where
+  abbrev answer : Answer
+  answer = cond (eqb x 1) Permitted (cond (eqb y 1) Open NotPermitted)
 
-pub answer-yes : (x : ℕ) → (cond (eqb x 1) Permitted NotPermitted ≡ Permitted) ↔ (x ≡ 1)
-answer-yes x = (λ e. to e (ℕ-discrete x 1), λ e. ap (λ (b : Bool). cond b Permitted NotPermitted) (eq-eqb x 1 e))
-  where
-    to : cond (eqb x 1) Permitted NotPermitted ≡ Permitted → Dec (x ≡ 1) → x ≡ 1
-    to e (yes d) = d
-    to e (no d) = let f : NotPermitted ≡ Permitted = sym (ap (λ (b : Bool). cond b Permitted NotPermitted) (ne-eqb x 1 d)) ∙ e in let z : _≡_ {A = ℕ} 0 1 = cc in absurd (omega arith)
+  -- what an answer means, by the marks
+  abbrev Meaning : Answer → Type 0
+  Meaning Permitted = x ≡ 1
+  Meaning Open = (x ≡ 1 → ⊥) × (y ≡ 1)
+  Meaning NotPermitted = (x ≡ 1 → ⊥) × (y ≡ 1 → ⊥)
+  Meaning (Changed c) = ⊥
+  Meaning (Refused j) = ⊥
 
-pub answer-no : (x : ℕ) → (cond (eqb x 1) Permitted NotPermitted ≡ NotPermitted) ↔ (x ≡ 1 → ⊥)
-answer-no x = (
-  λ e d. let f : Permitted ≡ NotPermitted = sym (ap (λ (b : Bool). cond b Permitted NotPermitted) (eq-eqb x 1 d)) ∙ e in let z : _≡_ {A = ℕ} 0 1 = cc in omega arith,
-  λ d. ap (λ (b : Bool). cond b Permitted NotPermitted) (ne-eqb x 1 d),
-)
+  pub answer-permitted : x ≡ 1 → answer ≡ Permitted
+  answer-permitted e = ap (λ (b : Bool). cond b Permitted (cond (eqb y 1) Open NotPermitted)) (eq-eqb x 1 e)
 
--- An accepted query on a book reached from a fresh one by its calls is permitted exactly when each closed set contains the
--- conclusion, and not permitted exactly when some closed set lacks it.
-pub demand-2 : (cs : List Call) (b : Book) (m : List ℕ) → Chain freshBook freshMarks cs b m → (s : List ℕ) (r : Answered) (n : List ℕ) → Called b m s r n →
+  pub answer-open : (x ≡ 1 → ⊥) × (y ≡ 1) → answer ≡ Open
+  answer-open h = ap (λ (b : Bool). cond b Permitted (cond (eqb y 1) Open NotPermitted)) (ne-eqb x 1 (h .0)) ∙ ap (λ (b : Bool). cond b Open NotPermitted) (eq-eqb y 1 (h .1))
+
+  pub answer-denied : (x ≡ 1 → ⊥) × (y ≡ 1 → ⊥) → answer ≡ NotPermitted
+  answer-denied h = ap (λ (b : Bool). cond b Permitted (cond (eqb y 1) Open NotPermitted)) (ne-eqb x 1 (h .0)) ∙ ap (λ (b : Bool). cond b Open NotPermitted) (ne-eqb y 1 (h .1))
+
+  means : Meaning answer
+  means = go (ℕ-discrete x 1) (ℕ-discrete y 1)
+    where
+      go : Dec (x ≡ 1) → Dec (y ≡ 1) → Meaning answer
+      go (yes e) d = subst Meaning (sym (answer-permitted e)) e
+      go (no n) (yes e) = subst Meaning (sym (answer-open (n, e))) (n, e)
+      go (no n) (no d) = subst Meaning (sym (answer-denied (n, d))) (n, d)
+
+  pub answer-means : (a : Answer) → answer ≡ a → Meaning a
+  answer-means a e = subst Meaning e means
+
+  pub answer-yes : (answer ≡ Permitted) ↔ (x ≡ 1)
+  answer-yes = (λ e. answer-means Permitted e, answer-permitted)
+
+  pub answer-maybe : (answer ≡ Open) ↔ ((x ≡ 1 → ⊥) × (y ≡ 1))
+  answer-maybe = (λ e. answer-means Open e, answer-open)
+
+  pub answer-no : (answer ≡ NotPermitted) ↔ ((x ≡ 1 → ⊥) × (y ≡ 1 → ⊥))
+  answer-no = (λ e. answer-means NotPermitted e, answer-denied)
+
+-- some closed set lacks what is not marked, and the other way round
+module _ {b : Book} {m k : List ℕ} {M : State} (R : Reached b m k M) (v : View) (x : List ℕ) (e : x ≡ marksIn v b) (n : ℕ) where
+  pub unmarked-lacking : (In x n → ⊥) → Lacking M (choiceOf v) n
+  unmarked-lacking d = let t = stands-out b m k M (R .form) (R .shows) v n .0 (λ h. d (subst (λ (z : List ℕ). In z n) (sym e) h)) in (In (t .0), t .1, t .2)
+
+  pub lacking-unmarked : Lacking M (choiceOf v) n → In x n → ⊥
+  lacking-unmarked h q = h .2 (mark-stands R v x e n .0 q (h .0) (h .1))
+
+-- An accepted query on a book reached from a fresh one by its calls is permitted exactly when under every choice each closed set
+-- contains the conclusion, not permitted exactly when under each choice some closed set lacks it, and open exactly when it stands
+-- under one choice and is lacking under another.
+pub demand-2 : (cs : List Call) (b : Book) (m k : List ℕ) → Chain freshBook freshMarks freshMarks cs b m k → (s : List ℕ) (r : Answered) (n l : List ℕ) → Called b m k s r n l →
     (c : ℕ) → step (runs start (records cs)) s .says ≡ asks c → Demand2 (step (runs start (records cs)) s .next) c (r .answer)
-unfolding answerOf marksAfter
-demand-2 cs b m K s r n C c e =
+unfolding answerOf marksAfter secondAfter
+demand-2 cs b m k K s r n l C c e =
     let R = after fresh-reached K .reached in
     let F = fol R C in
     let R′ = reached-after R C in
     let M′ = step (runs start (records cs)) s .next in
-    let a : r .answer ≡ cond (eqb (getD m c 0) 1) Permitted NotPermitted = F .answer ∙ ap (λ (v : Verdict). answerOf v m n) e in
-    let k : n ≡ m = F .marks ∙ ap (λ (v : Verdict). marksAfter v (r .book) m) e in
-    let w : m ≡ standing (r .book .table .rows) (r .book .flags) = sym k ∙ R′ .stands in
-    let i = stands-in (r .book) n M′ (R′ .form) (R′ .shows) c in
-    let o = stands-out (r .book) n M′ (R′ .form) (R′ .shows) c in
+    let a : r .answer ≡ answerAt m k c = F .answer ∙ ap (λ (v : Verdict). answerOf v m k n) e in
+    let w : m ≡ marksIn firm (r .book) = sym (F .marks ∙ ap (λ (v : Verdict). marksAfter v (r .book) m) e) ∙ R′ .stands in
+    let z : k ≡ marksIn both (r .book) = sym (F .second ∙ ap (λ (v : Verdict). secondAfter v (r .book) k) e) ∙ R′ .second in
+    let first = mark-stands R′ firm m w c in
+    let second = mark-stands R′ both k z c in
+    let P = permitted-none M′ c in
+    let O = open-both M′ c in
+    let D = not-permitted-all M′ c in
     record {
       permitted = (
-        λ h. i .0 (subst (λ (l : List ℕ). In l c) w (answer-yes (getD m c 0) .0 (sym a ∙ h))),
-        λ h. a ∙ answer-yes (getD m c 0) .1 (subst (λ (l : List ℕ). In l c) (sym w) (i .1 h)),
+        λ h. P .1 (first .0 (answer-yes (getD m c 0) (getD k c 0) .0 (sym a ∙ h))),
+        λ h. a ∙ answer-yes (getD m c 0) (getD k c 0) .1 (first .1 (P .0 h)),
+      );
+      undecided = (
+        λ h. let t = answer-maybe (getD m c 0) (getD k c 0) .0 (sym a ∙ h) in O .1 (second .0 (t .1), unmarked-lacking R′ firm m w c (t .0)),
+        λ h. let t = O .0 h in a ∙ answer-maybe (getD m c 0) (getD k c 0) .1 (lacking-unmarked R′ firm m w c (t .1), second .1 (t .0)),
       );
       notPermitted = (
-        λ h. let t = o .0 (λ q. answer-no (getD m c 0) .0 (sym a ∙ h) (subst (λ (l : List ℕ). In l c) (sym w) q)) in (In (t .0), t .1, t .2),
-        λ h. a ∙ answer-no (getD m c 0) .1 (λ q. h .2 (i .0 (subst (λ (l : List ℕ). In l c) w q) (h .0) (h .1))),
+        λ h. D .1 (unmarked-lacking R′ both k z c (answer-no (getD m c 0) (getD k c 0) .0 (sym a ∙ h) .1)),
+        λ h. a ∙ answer-no (getD m c 0) (getD k c 0) .1 (lacking-unmarked R′ firm m w c (h (choiceOf firm)), lacking-unmarked R′ both k z c (D .0 h)),
       );
     }
 
--- Where some closed set lacks a statement, some closed list of marks does.
-pub lacking-list : (cs : List Call) (b : Book) (m : List ℕ) → Chain freshBook freshMarks cs b m → (n : ℕ) → Lacking (runs start (records cs)) n →
-    (t : List ℕ) × ClosedSet (runs start (records cs)) (In t) × (In t n → ⊥)
-lacking-list cs b m K n h =
+-- Where under a choice of all or none some closed set lacks a statement, some closed list of marks does.
+pub lacking-list : (cs : List Call) (b : Book) (m k : List ℕ) → Chain freshBook freshMarks freshMarks cs b m k → (v : View) (n : ℕ) → Lacking (runs start (records cs)) (choiceOf v) n →
+    (t : List ℕ) × ClosedSet (runs start (records cs)) (choiceOf v) (In t) × (In t n → ⊥)
+lacking-list cs b m k K v n h =
     let R = after fresh-reached K .reached in
     let M = runs start (records cs) in
-    stands-out b m M (R .form) (R .shows) n .0 (λ q. h .2 (stands-in b m M (R .form) (R .shows) n .0 q (h .0) (h .1)))
+    stands-out b m k M (R .form) (R .shows) v n .0 (λ q. h .2 (stands-in b m k M (R .form) (R .shows) v n .0 q (h .0) (h .1)))

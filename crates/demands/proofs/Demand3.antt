@@ -2,35 +2,39 @@
 use Prim.Native.Nat.{ℕ, _+_}
 use mathlib.Core.Path.{_≡_, refl, sym, subst}
 use mathlib.Core.List.{List}
+use mathlib.Core.Logic.{_↔_}
 use native.Mathlib.Omega.{arith}
 use lib.ListN.{replicate}
 use Rattle.sorts.specs.Numbers.{allMarks}
 use Rattle.ranges.specs.Bytes.{Outcome, got, refused}
-use Rattle.reader.specs.Records.{Record, enter, remove, query, readCanonical}
-use Rattle.rules.specs.Standing.{In, standing}
+use Rattle.reader.specs.Records.{Record, enter, remove, confirm, query, readCanonical}
+use Rattle.rules.specs.Standing.{In}
+use Rattle.machine.specs.Machine.{State, step}
+use Rattle.machine.specs.Closed.{Stands}
+use Rattle.marks.specs.Counts.{Statements, truths, sayings, ones, marksOf}
 use Rattle.book.specs.declared.Book.{Book}
 use Rattle.book.specs.declared.Answered.{Answered}
-use Rattle.book.specs.Machine.{State, start, step}
-use Rattle.marks.specs.Counts.{Statements, truths, sayings, ones, marksOf}
 use Rattle.book.specs.Calls.{Called}
 use Rattle.book.specs.Chains.{freshBook, freshMarks, Call, Chain, none, then, records, runs}
 use Rattle.demands.specs.Worth.{allGains, allLosses}
 use Rattle.demands.specs.Demands.{Agrees, NoLoss, NoGain, OneWay, AllOneWay, Demand3}
 use Rattle.demands.proofs.Balance.{ones-none, ones-kinds}
+use Rattle.demands.proofs.Views.{View, firm, both, choiceOf, marksIn}
 use Rattle.demands.proofs.ClosedBook.{stands-in}
 use Rattle.demands.proofs.Moving.{Moved, moved, Still}
+use Rattle.demands.proofs.Standings.{both-more}
 use Rattle.demands.proofs.Reached.{Reached, fresh-reached, fol, reached-after, call-balance, no-loss, no-gain}
 
 -- what holds after a list of calls from a book that was reached
-pub record After (M : State) (m₀ : List ℕ) (cs : List Call) (b : Book) (m : List ℕ) : Type 0 where
-  pub reached : Reached b m (runs M (records cs))
+pub record After (M : State) (m₀ : List ℕ) (cs : List Call) (b : Book) (m k : List ℕ) : Type 0 where
+  pub reached : Reached b m k (runs M (records cs))
   pub answers : Agrees M cs
-  pub sums : (k : Statements) → allGains k cs + ones (marksOf k m₀) ≡ allLosses k cs + ones (marksOf k m)
+  pub sums : (j : Statements) → allGains j cs + ones (marksOf j m₀) ≡ allLosses j cs + ones (marksOf j m)
   pub oneWay : AllOneWay cs
 
-module _ {b : Book} {m s : List ℕ} {r : Answered} {n : List ℕ} {M : State} (R : Reached b m M) (C : Called b m s r n) where
+module _ {b : Book} {m k s : List ℕ} {r : Answered} {n l : List ℕ} {M : State} (R : Reached b m k M) (C : Called b m k s r n l) where
   abbrev this : Call
-  this = record { record′ = s; before = b; marks = m; gave = r; left = n }
+  this = record { record′ = s; before = b; marks = m; second = k; gave = r; left = n; leftSecond = l }
 
   both-still : Still M (step M s .next) → (NoLoss this) × (NoGain this)
   both-still u = (no-loss R C (record { grows = u .grows; ext = u .ext }), no-gain R C (record { shrinks = u .shrinks; ext = u .ext }))
@@ -38,47 +42,54 @@ module _ {b : Book} {m s : List ℕ} {r : Answered} {n : List ℕ} {M : State} (
   -- a call goes one way, by its record
   one-way : (o : Outcome Record) → readCanonical s ≡ o → Moved M o → OneWay o this
   unfolding step
-  one-way (got (enter by g) k) e u = no-loss R C (rw e u)
-  one-way (got (remove by g) k) e u = no-gain R C (rw e u)
-  one-way (got (query c) k) e u = both-still (rw e u)
-  one-way (refused k) e u = both-still (rw e u)
+  one-way (got (enter by g) u) e h = no-loss R C (rw e h)
+  one-way (got (remove by g) u) e h = no-gain R C (rw e h)
+  one-way (got (confirm p g) u) e h = no-loss R C (rw e h)
+  one-way (got (query c) u) e h = both-still (rw e h)
+  one-way (refused j) e h = both-still (rw e h)
 
-pub after : {b b′ : Book} {m m′ : List ℕ} {cs : List Call} {M : State} → Reached b m M → Chain b m cs b′ m′ → After M m cs b′ m′
+pub after : {b b′ : Book} {m m′ k k′ : List ℕ} {cs : List Call} {M : State} → Reached b m k M → Chain b m k cs b′ m′ k′ → After M m cs b′ m′ k′
 unfolding runs records Agrees AllOneWay allGains allLosses
-after {m = m} R none = record { reached = R; answers = tt; sums = λ k. refl; oneWay = tt }
-after {b} {b′} {m} {m′} {M = M} R (then s r n C K) =
+after R none = record { reached = R; answers = tt; sums = λ j. refl; oneWay = tt }
+after {b} {b′} {m} {m′} {k} {k′} {M = M} R (then s r n l C K) =
     let A = after (reached-after R C) K in
     record {
       reached = A .reached;
       answers = (fol R C .answer, fol R C .used, A .answers);
-      sums = λ k. let x = A .sums k in let y = call-balance R C k in omega arith;
+      sums = λ j. let x = A .sums j in let y = call-balance R C j in omega arith;
       oneWay = (one-way R C (readCanonical s) refl (moved M (readCanonical s)), A .oneWay);
     }
 
 -- no mark of either kind stands in a fresh book
-none-fresh : (k : Statements) → ones (marksOf k (replicate allMarks 0)) ≡ 0
+none-fresh : (j : Statements) → ones (marksOf j (replicate allMarks 0)) ≡ 0
 none-fresh truths = let e = ones-kinds (replicate allMarks 0) in let z = ones-none allMarks in omega arith
 none-fresh sayings = let e = ones-kinds (replicate allMarks 0) in let z = ones-none allMarks in omega arith
 
+-- the marks x of a book that was reached, in a view, by the closed sets of the choice
+pub mark-stands : {b : Book} {m k : List ℕ} {M : State} → Reached b m k M → (v : View) (x : List ℕ) → x ≡ marksIn v b → (n : ℕ) → In x n ↔ Stands M (choiceOf v) n
+mark-stands {b} {m} {k} {M} R v x e n =
+    let i = stands-in b m k M (R .form) (R .shows) v n in
+    (λ h. i .0 (subst (λ (z : List ℕ). In z n) e h), λ h. subst (λ (z : List ℕ). In z n) (sym e) (i .1 h))
+
 -- Marks, rows, flags and answers are what the plain machine, fed only the records' bytes, and the closed sets say; gains less
 -- losses equal the marks standing; no enter or issue loses, no strike or withdrawal gains.
-pub demand-3 : (cs : List Call) (b : Book) (m : List ℕ) → Chain freshBook freshMarks cs b m → Demand3 cs b m
+pub demand-3 : (cs : List Call) (b : Book) (m k : List ℕ) → Chain freshBook freshMarks freshMarks cs b m k → Demand3 cs b m k
 unfolding freshMarks
-demand-3 cs b m K =
+demand-3 cs b m k K =
     let A = after fresh-reached K in
     let R = A .reached in
     record {
-      marks = λ n.
-          let i = stands-in b m (runs start (records cs)) (R .form) (R .shows) n in
-          (λ h. i .0 (subst (λ (l : List ℕ). In l n) (R .stands) h), λ h. subst (λ (l : List ℕ). In l n) (sym (R .stands)) (i .1 h));
+      marks = mark-stands R firm m (R .stands);
+      second = mark-stands R both k (R .second);
+      within = λ n h. subst (λ (z : List ℕ). In z n) (sym (R .second)) (both-more (R .form) n (subst (λ (z : List ℕ). In z n) (R .stands) h));
       form = R .form;
       shows = R .shows;
       answers = A .answers;
-      sums = λ k. let x = A .sums k in let y = none-fresh k in omega arith;
+      sums = λ j. let x = A .sums j in let y = none-fresh j in omega arith;
       oneWay = A .oneWay;
     }
 
 -- Document 01's one sum follows: all gains less all losses, truths and sayings together, equal the marks standing.
-pub sums-total : (cs : List Call) (b : Book) (m : List ℕ) → Demand3 cs b m →
+pub sums-total : (cs : List Call) (b : Book) (m k : List ℕ) → Demand3 cs b m k →
     allGains truths cs + allGains sayings cs ≡ (allLosses truths cs + allLosses sayings cs) + ones m
-sums-total cs b m D = let t = D .sums truths in let s = D .sums sayings in let e = ones-kinds m in omega arith
+sums-total cs b m k D = let t = D .sums truths in let s = D .sums sayings in let e = ones-kinds m in omega arith

@@ -11,7 +11,7 @@ use Rattle.grants.specs.Grants.{readProperty, readPacked, readIssue, readConcl,
 use Rattle.canon.specs.Canon.{canon}
 use Rattle.reader.specs.Records.{readEntry, readLicence, readQuery, readContent, kindWith, readMark, readRecord, readCanonical}
 use Rattle.book.specs.declared.Book.{Book}
-use Rattle.book.specs.Machine.{State, Verdict, changes, asks, refuses, Entry, start, member, insert, delete, act, step}
+use Rattle.machine.specs.Machine.{State, Verdict, changes, asks, refuses, Entry, start, member, insert, delete, act, step}
 use Rattle.book.specs.Books.{Shows}
 use Rattle.book.specs.Chains.{freshBook, freshMarks, Call, Chain, records, runs}
 use Rattle.demands.proofs.Demand3.{demand-3}
@@ -61,5 +61,5 @@ unfolding opened
 journal-runs = refl
 
 -- every list of calls with these records leaves a book that shows that state
-pub journal-shows : (cs : List Call) (b : Book) (m : List ℕ) → Chain freshBook freshMarks cs b m → records cs ≡ journal → Shows b journal-end
-journal-shows cs b m K e = subst (Shows b) (ap (runs start) e ∙ journal-runs) (demand-3 cs b m K .shows)
+pub journal-shows : (cs : List Call) (b : Book) (m k : List ℕ) → Chain freshBook freshMarks freshMarks cs b m k → records cs ≡ journal → Shows b journal-end
+journal-shows cs b m k K e = subst (Shows b) (ap (runs start) e ∙ journal-runs) (demand-3 cs b m k K .shows)

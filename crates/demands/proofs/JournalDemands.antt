@@ -7,12 +7,9 @@ use mathlib.Core.List.{List, [], _∷_}
 use mathlib.Core.Logic.{_⊎_, inl, inr, ⊎-elim}
 use native.Mathlib.Omega.{arith}
 use native.Mathlib.Decide.{ℕ-discrete}
-use borrow.Author.Tests.{eqb-true}
 use lib.ListN.{length, getD, set, take, length-set}
 use lib.Seq.{getD-set-same, getD-set-other, getD-drop}
-use lib.Dec.{eqb}
-use Rattle.sorts.specs.declared.Status.{Status}
-use Rattle.sorts.specs.declared.Status.the-variants.{Trusted, Issued}
+use Rattle.sorts.specs.declared.Status.the-variants.{Trusted, Issued, Provisional}
 use Rattle.sorts.specs.Numbers.{saidMark, conclusions, allMarks}
 use Rattle.sorts.specs.Flags.{flagOf}
 use Rattle.rows.specs.Written.{Grant, written, sameBytes, sameWritten}
@@ -28,10 +25,13 @@ use Rattle.rules.specs.Standing.{In, Bits}
 use Rattle.rules.proofs.Saturation.{same-marks, zeroes-none}
 use Rattle.book.specs.declared.Book.{Book}
 use Rattle.book.specs.declared.Answer.the-variants.{Permitted, NotPermitted}
-use Rattle.book.specs.Machine.{State, Entry, Step, asks, start, member, insert, delete, act, step}
-use Rattle.book.specs.Closed.{grantAt, rowAt, StandsAs, ClosedSet, Stands, Lacking}
+use Rattle.machine.specs.Machine.{State, Entry, Step, asks, start, member, insert, delete, act, step}
+use Rattle.machine.specs.Closed.{Choice, grantAt, rowAt, StandsAs, Licensed, ClosedSet, Stands}
+use Rattle.machine.specs.Closed as closed
+use Rattle.machine.specs.Choices.{AlwaysStands, NeverStands}
+use Rattle.machine.proofs.Apart.{kindOf, kinds-apart}
 use Rattle.marks.specs.Counts.{truths, sayings, ones, marksOf}
-use Rattle.book.proofs.Sets.{member-cases, member-none}
+use Rattle.machine.proofs.Sets.{member-cases, member-none}
 use Rattle.book.specs.Chains.{freshBook, freshMarks, Call, Chain, none, then, records, runs}
 use Rattle.demands.specs.Worth.{allGains, allLosses}
 use Rattle.demands.specs.Demands.{NoLoss, NoGain, OneWay, AllOneWay}
@@ -75,7 +75,26 @@ both-true false b e = absurd (no-true e)
 
 -- an entry that is issued is not one that is trusted
 not-trusted : {A : Type 0} (p : ℕ) (g h : Grant) → _≡_ {A = Entry} (record { by = Issued (record { 0 = p }); what = g }) (trusted h) → A
-not-trusted p g h e = let q : _≡_ {A = Status} (Issued (record { 0 = p })) Trusted = ap (λ (x : Entry). x .by) e in let z : _≡_ {A = ℕ} 0 1 = cc in absurd (omega arith)
+not-trusted p g h e = absurd (kinds-apart (Issued (record { 0 = p })) Trusted g h (λ q. omega (arith, q)) e)
+
+-- no licence of the journal is provisional, so that under every choice the firm ones count
+
+provisional-no : (p g : ℕ) (M : State) (y : Entry) (E : List Entry) → (kindOf (Provisional (record { 0 = p })) ≡ kindOf (y .by) → ⊥) → StandsAs (record { entries = y ∷ E; N = M .N }) (Provisional (record { 0 = p })) g →
+    StandsAs (record { entries = E; N = M .N }) (Provisional (record { 0 = p })) g
+provisional-no p g M y E d s =
+    ⊎-elim (λ e. absurd (kinds-apart (Provisional (record { 0 = p })) (y .by) (grantAt M g) (y .what) d e)) (λ h. (s .0, h)) (member-cases _ y E (s .1))
+
+first-firm : (C : Choice) (p g : ℕ) → Licensed first C p g → StandsAs first (Issued (record { 0 = p })) g
+first-firm C p g (inl h) = h
+first-firm C p g (inr h) =
+    let r = provisional-no p g first issued [] (λ q. omega (arith, q)) (provisional-no p g first (trusted smart) (issued ∷ []) (λ q. omega (arith, q)) (h .0)) in
+    absurd (member-none _ (r .1))
+
+end-firm : (C : Choice) (p g : ℕ) → Licensed journal-end C p g → StandsAs journal-end (Issued (record { 0 = p })) g
+end-firm C p g (inl h) = h
+end-firm C p g (inr h) =
+    let r = provisional-no p g journal-end (trusted may) [] (λ q. omega (arith, q)) (provisional-no p g journal-end (trusted smart) (trusted may ∷ []) (λ q. omega (arith, q)) (h .0)) in
+    absurd (member-none _ (r .1))
 
 -- the one licence is 0's, with Good(2)
 one-licence : (p g : ℕ) → StandsAs first (Issued (record { 0 = p })) g → (p ≡ 0) × (g ≡ 1)
@@ -106,11 +125,11 @@ not-issue : (p g : ℕ) → p ≡ 0 → g ≡ 1 → FirstMarks (issueMark p g) �
 not-issue p g e f (inl h) = omega arith
 not-issue p g e f (inr h) = omega arith
 
-first-closed : ClosedSet first FirstMarks
-first-closed = record {
-  saying = λ g x y z p v l s h. said-first g x y z p (one-licence p g s);
+first-closed : (C : Choice) → ClosedSet first C FirstMarks
+first-closed C = record {
+  saying = λ g x y z p v l s h. said-first g x y z p (one-licence p g (first-firm C p g s));
   trust = λ g x y z v s h. true-first g x y z (one-trusted g s);
-  authority = λ g x y z p v l s i h. let q = one-licence p g s in absurd (not-issue p g (q .0) (q .1) i);
+  authority = λ g x y z p v l s i h. let q = one-licence p g (first-firm C p g s) in absurd (not-issue p g (q .0) (q .1) i);
 }
   where
     said-first : (g x y z p : ℕ) → (p ≡ 0) × (g ≡ 1) → FirstMarks (saidMark p (granted (rowAt first g) x y z))
@@ -121,8 +140,8 @@ first-closed = record {
     true-first : (g x y z : ℕ) → g ≡ 0 → FirstMarks (granted (rowAt first g) x y z)
     true-first g x y z e = inl (ap (λ (i : ℕ). granted (rowAt first i) x y z) e ∙ gives-smart x y z .0)
 
-first-lacks : Lacking first 290
-first-lacks = (FirstMarks, first-closed, not-there)
+first-lacks : NeverStands first 290
+first-lacks C = (FirstMarks, first-closed C, not-there)
   where
     not-there : FirstMarks 290 → ⊥
     not-there (inl e) = omega arith
@@ -132,11 +151,11 @@ first-lacks = (FirstMarks, first-closed, not-there)
 no-values : (M : State) (g : ℕ) → g < 64 → rowAt M g .prins ≡ 0 → rowAt M g .res ≡ 0 → Values (rowAt M) g 0 0 0
 no-values M g l e f = record { grant = l; first = rw e (omega arith); second = rw e (omega arith); resource = rw f (omega arith) }
 
-second-stands : Stands second 290
+second-stands : AlwaysStands second 290
 unfolding rowOf condsOf place member sameWritten sameBytes written
-second-stands S c =
+second-stands C S c =
     let right : S 17 = subst S (gives-may 0 0 0 .0) (c .trust 2 0 0 0 (no-values second 2 (omega arith) refl refl) (omega arith, refl) (λ i l. absurd (omega arith))) in
-    subst S (gives-good 0 0 0 .1) (c .authority 1 0 0 0 0 (no-values second 1 (omega arith) refl refl) (omega arith) (omega arith, refl) right (λ i l. absurd (omega arith)))
+    subst S (gives-good 0 0 0 .1) (c .authority 1 0 0 0 0 (no-values second 1 (omega arith) refl refl) (omega arith) (inl (omega arith, refl)) right (λ i l. absurd (omega arith)))
 
 -- At the end Perm(0, issue, Good(2)) and Smart(2) stand, and nothing else.
 abbrev EndMarks : ℕ → Type 0
@@ -155,18 +174,18 @@ end-trusted (suc zero) x y z s = absurd (no-true (s .1))
 end-trusted (suc (suc zero)) x y z s = inl (gives-may x y z .1)
 end-trusted (suc (suc (suc g))) x y z s = absurd (omega (arith, s .0))
 
-end-closed : ClosedSet journal-end EndMarks
-end-closed = record {
-  saying = λ g x y z p v l s h. absurd (no-licence p g s);
+end-closed : (C : Choice) → ClosedSet journal-end C EndMarks
+end-closed C = record {
+  saying = λ g x y z p v l s h. absurd (no-licence p g (end-firm C p g s));
   trust = λ g x y z v s h. end-trusted g x y z s;
-  authority = λ g x y z p v l s i h. absurd (no-licence p g s);
+  authority = λ g x y z p v l s i h. absurd (no-licence p g (end-firm C p g s));
 }
 
-end-stands : (n : ℕ) → EndMarks n → Stands journal-end n
+end-stands : (C : Choice) (n : ℕ) → EndMarks n → Stands journal-end C n
 unfolding rowOf condsOf place member sameWritten sameBytes written
-end-stands n (inl e) S c =
+end-stands C n (inl e) S c =
     subst S (gives-may 0 0 0 .1 ∙ sym e) (c .trust 2 0 0 0 (no-values journal-end 2 (omega arith) refl refl) (omega arith, refl) (λ i l. absurd (omega arith)))
-end-stands n (inr e) S c =
+end-stands C n (inr e) S c =
     subst S (gives-smart 0 0 0 .1 ∙ sym e) (c .trust 0 0 0 0 (no-values journal-end 0 (omega arith) refl refl) (omega arith, refl) (λ i l. absurd (omega arith)))
 
 -- Marks that are those two, and no others, are two.
@@ -218,7 +237,7 @@ module _ (l : List ℕ) (len : length l ≡ allMarks) (blank : (n : ℕ) → get
 
 fresh-blank : (n : ℕ) → getD freshMarks n 0 ≡ 0
 unfolding freshMarks
-fresh-blank n = let b = fresh-form .markBits n in let d = zeroes-none allMarks n in omega (arith, b, d)
+fresh-blank n = let b = fresh-form .marks .bits n in let d = zeroes-none allMarks n in omega (arith, b, d)
 
 fresh-ones : ones freshMarks ≡ 0
 unfolding freshMarks
@@ -237,18 +256,18 @@ module _ (m : List ℕ) (bits : Bits m) (all : ones m ≡ 2) (is : (n : ℕ) →
   two-truths = let e = ones-kinds m in let z = no-sayings in omega arith
 
 -- THE SUMS: gains less losses of truths are the two marks that stand at the end; those of sayings are none.
-pub journal-sums : (cs : List Call) (b : Book) (m : List ℕ) → Chain freshBook freshMarks cs b m → records cs ≡ journal →
+pub journal-sums : (cs : List Call) (b : Book) (m k : List ℕ) → Chain freshBook freshMarks freshMarks cs b m k → records cs ≡ journal →
     (allGains truths cs ≡ allLosses truths cs + 2) × (allGains sayings cs ≡ allLosses sayings cs)
-journal-sums cs b m K e =
-    let D = demand-3 cs b m K in
+journal-sums cs b m k K e =
+    let D = demand-3 cs b m k K in
     let M : runs start (records cs) ≡ journal-end = ap (runs start) e ∙ journal-runs in
-    let is : (n : ℕ) → In m n → EndMarks n = λ n h. subst (λ (x : State). Stands x n) M (D .marks n .0 h) EndMarks end-closed in
-    let two = two-marks freshMarks (fresh-form .marks) fresh-blank m (D .form .marks) (D .form .markBits)
-    (λ n. (is n, λ h. D .marks n .1 (subst (λ (x : State). Stands x n) (sym M) (end-stands n h)))) in
+    let is : (n : ℕ) → In m n → EndMarks n = λ n h. subst (λ (x : State). Stands x closed.none n) M (D .marks n .0 h) EndMarks (end-closed closed.none) in
+    let two = two-marks freshMarks (fresh-form .marks .count) fresh-blank m (D .form .marks .count) (D .form .marks .bits)
+    (λ n. (is n, λ h. D .marks n .1 (subst (λ (x : State). Stands x closed.none n) (sym M) (end-stands closed.none n h)))) in
     let z = fresh-ones in
     let all : ones m ≡ 2 = omega arith in
-    let t = two-truths m (D .form .markBits) all is in
-    let s = no-sayings m (D .form .markBits) all is in
+    let t = two-truths m (D .form .marks .bits) all is in
+    let s = no-sayings m (D .form .marks .bits) all is in
     let x = D .sums truths in
     let y = D .sums sayings in
     (omega arith, omega arith)
@@ -263,11 +282,11 @@ sixth-is : readCanonical (87 ∷ 68 ∷ 0 ∷ 0 ∷ 0 ∷ 0 ∷ 0 ∷ 2 ∷ 2 �
 unfolding byteAt upto principal header readProperty readConcl readConds readWith readGrant readEntry readLicence readContent kindWith readMark readRecord canon readCanonical
 sixth-is = refl
 
-pub journal-one-way : (a b c d e f g : Call) (t : Book) (m : List ℕ) → Chain freshBook freshMarks (a ∷ b ∷ c ∷ d ∷ e ∷ f ∷ g ∷ []) t m →
+pub journal-one-way : (a b c d e f g : Call) (t : Book) (m k : List ℕ) → Chain freshBook freshMarks freshMarks (a ∷ b ∷ c ∷ d ∷ e ∷ f ∷ g ∷ []) t m k →
     records (a ∷ b ∷ c ∷ d ∷ e ∷ f ∷ g ∷ []) ≡ journal → NoLoss b × NoGain f
 unfolding records AllOneWay
-journal-one-way a b c d e f g t m K h =
-    let W = demand-3 (a ∷ b ∷ c ∷ d ∷ e ∷ f ∷ g ∷ []) t m K .oneWay in
+journal-one-way a b c d e f g t m k K h =
+    let W = demand-3 (a ∷ b ∷ c ∷ d ∷ e ∷ f ∷ g ∷ []) t m k K .oneWay in
     let li : readCanonical (b .record′) ≡ got (enter (Issued (record { 0 = 0 })) good) 9 = ap (λ (l : List (List ℕ)). readCanonical (getD l 1 [])) h ∙ second-is in
     let wd : readCanonical (f .record′) ≡ got (remove (Issued (record { 0 = 0 })) good) 9 = ap (λ (l : List (List ℕ)). readCanonical (getD l 5 [])) h ∙ sixth-is in
     (subst (λ (o : Outcome Record). OneWay o b) li (W .1 .0), subst (λ (o : Outcome Record). OneWay o f) wd (W .1 .1 .1 .1 .1 .0))
@@ -282,14 +301,14 @@ fifth-asks : step (runs start (take 4 journal)) (getD journal 4 []) ≡ record {
 unfolding byteAt upto principal pack tag header readProperty readPacked readIssue readConcl readConds readWith readGrant readEntry readLicence readQuery readContent kindWith readMark readRecord canon readCanonical written sameBytes sameWritten place has add number member insert delete act step runs
 fifth-asks = refl
 
-pub journal-answers : {a b c d e f g : Call} {t : Book} {m : List ℕ} → Chain freshBook freshMarks (a ∷ b ∷ c ∷ d ∷ e ∷ f ∷ g ∷ []) t m →
+pub journal-answers : {a b c d e f g : Call} {t : Book} {m k : List ℕ} → Chain freshBook freshMarks freshMarks (a ∷ b ∷ c ∷ d ∷ e ∷ f ∷ g ∷ []) t m k →
     records (a ∷ b ∷ c ∷ d ∷ e ∷ f ∷ g ∷ []) ≡ journal → (c .gave .answer ≡ NotPermitted) × (e .gave .answer ≡ Permitted)
 unfolding records
-journal-answers (then s1 r1 n1 c1 (then s2 r2 n2 c2 (then s3 r3 n3 c3 (then s4 r4 n4 c4 (then s5 r5 n5 c5 K))))) h =
+journal-answers (then s1 r1 n1 l1 c1 (then s2 r2 n2 l2 c2 (then s3 r3 n3 l3 c3 (then s4 r4 n4 l4 c4 (then s5 r5 n5 l5 c5 K))))) h =
     let third : step (runs start (s1 ∷ s2 ∷ [])) s3 ≡ record { next = first; says = asks 290; used = 5 } = ap (λ (l : List (List ℕ)). step (runs start (take 2 l)) (getD l 2 [])) h ∙ third-asks in
     let fifth : step (runs start (s1 ∷ s2 ∷ s3 ∷ s4 ∷ [])) s5 ≡ record { next = second; says = asks 290; used = 5 } = ap (λ (l : List (List ℕ)). step (runs start (take 4 l)) (getD l 4 [])) h ∙ fifth-asks in (
-      demand-2 _ _ _ (then s1 r1 n1 c1 (then s2 r2 n2 c2 none)) s3 r3 n3 c3 290 (ap (λ (x : Step). x .says) third) .notPermitted .1 (subst (λ (x : Step). Lacking (x .next) 290) (sym third) first-lacks),
-      demand-2 _ _ _ (then s1 r1 n1 c1 (then s2 r2 n2 c2 (then s3 r3 n3 c3 (then s4 r4 n4 c4 none)))) s5 r5 n5 c5 290 (ap (λ (x : Step). x .says) fifth) .permitted .1 (subst (λ (x : Step). Stands (x .next) 290) (sym fifth) second-stands),
+      demand-2 _ _ _ _ (then s1 r1 n1 l1 c1 (then s2 r2 n2 l2 c2 none)) s3 r3 n3 l3 c3 290 (ap (λ (x : Step). x .says) third) .notPermitted .1 (subst (λ (x : Step). NeverStands (x .next) 290) (sym third) first-lacks),
+      demand-2 _ _ _ _ (then s1 r1 n1 l1 c1 (then s2 r2 n2 l2 c2 (then s3 r3 n3 l3 c3 (then s4 r4 n4 l4 c4 none)))) s5 r5 n5 l5 c5 290 (ap (λ (x : Step). x .says) fifth) .permitted .1 (subst (λ (x : Step). AlwaysStands (x .next) 290) (sym fifth) second-stands),
     )
 
 -- There are such calls: chain-some has them, and calls with these records are seven.
@@ -303,20 +322,21 @@ pub record Seven : Type 0 where
   pub g : Call
   pub book : Book
   pub marks : List ℕ
-  pub chain : Chain freshBook freshMarks (a ∷ b ∷ c ∷ d ∷ e ∷ f ∷ g ∷ []) book marks
+  pub second : List ℕ
+  pub chain : Chain freshBook freshMarks freshMarks (a ∷ b ∷ c ∷ d ∷ e ∷ f ∷ g ∷ []) book marks second
   pub same : records (a ∷ b ∷ c ∷ d ∷ e ∷ f ∷ g ∷ []) ≡ journal
 
-seven : (cs : List Call) (t : Book) (m : List ℕ) → Chain freshBook freshMarks cs t m → records cs ≡ journal → Seven
+seven : (cs : List Call) (t : Book) (m k : List ℕ) → Chain freshBook freshMarks freshMarks cs t m k → records cs ≡ journal → Seven
 unfolding records
-seven [] t m K h = absurd (omega (arith, ap length h))
-seven (a ∷ []) t m K h = absurd (omega (arith, ap length h))
-seven (a ∷ b ∷ []) t m K h = absurd (omega (arith, ap length h))
-seven (a ∷ b ∷ c ∷ []) t m K h = absurd (omega (arith, ap length h))
-seven (a ∷ b ∷ c ∷ d ∷ []) t m K h = absurd (omega (arith, ap length h))
-seven (a ∷ b ∷ c ∷ d ∷ e ∷ []) t m K h = absurd (omega (arith, ap length h))
-seven (a ∷ b ∷ c ∷ d ∷ e ∷ f ∷ []) t m K h = absurd (omega (arith, ap length h))
-seven (a ∷ b ∷ c ∷ d ∷ e ∷ f ∷ g ∷ []) t m K h = record { a = a; b = b; c = c; d = d; e = e; f = f; g = g; book = t; marks = m; chain = K; same = h }
-seven (a ∷ b ∷ c ∷ d ∷ e ∷ f ∷ g ∷ x ∷ cs) t m K h = absurd (omega (arith, ap length h))
+seven [] t m k K h = absurd (omega (arith, ap length h))
+seven (a ∷ []) t m k K h = absurd (omega (arith, ap length h))
+seven (a ∷ b ∷ []) t m k K h = absurd (omega (arith, ap length h))
+seven (a ∷ b ∷ c ∷ []) t m k K h = absurd (omega (arith, ap length h))
+seven (a ∷ b ∷ c ∷ d ∷ []) t m k K h = absurd (omega (arith, ap length h))
+seven (a ∷ b ∷ c ∷ d ∷ e ∷ []) t m k K h = absurd (omega (arith, ap length h))
+seven (a ∷ b ∷ c ∷ d ∷ e ∷ f ∷ []) t m k K h = absurd (omega (arith, ap length h))
+seven (a ∷ b ∷ c ∷ d ∷ e ∷ f ∷ g ∷ []) t m k K h = record { a = a; b = b; c = c; d = d; e = e; f = f; g = g; book = t; marks = m; second = k; chain = K; same = h }
+seven (a ∷ b ∷ c ∷ d ∷ e ∷ f ∷ g ∷ x ∷ cs) t m k K h = absurd (omega (arith, ap length h))
 
 pub journal-seven : Seven
-journal-seven = let K = chain-some journal in seven (K .calls) (K .book) (K .marks) (K .chain) (K .same)
+journal-seven = let K = chain-some journal in seven (K .calls) (K .book) (K .marks) (K .second) (K .chain) (K .same)

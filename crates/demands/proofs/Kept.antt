@@ -10,10 +10,10 @@ use Rattle.rows.specs.Numbering.{place, has}
 use Rattle.rows.specs.Form.{rowsOut}
 use Rattle.rows.proofs.Place.{has-lt}
 use Rattle.ranges.specs.Bytes.{Outcome, got, refused}
-use Rattle.reader.specs.Records.{Record, enter, remove, query, readCanonical}
+use Rattle.reader.specs.Records.{Record, enter, remove, confirm, query, readCanonical}
 use Rattle.rows.proofs.Appended.{Ext, ext-refl, ext-trans}
 use Rattle.book.specs.declared.Book.{Book}
-use Rattle.book.specs.Machine.{State, start, acted, step}
+use Rattle.machine.specs.Machine.{State, start, acted, step}
 use Rattle.book.specs.Chains.{Call, Chain, freshBook, freshMarks, records, runs}
 use Rattle.demands.proofs.Moving.{Moved, moved}
 use Rattle.demands.proofs.Reached.{fresh-reached}
@@ -26,6 +26,7 @@ step-grows M s = go (readCanonical s) (moved M (readCanonical s))
     go : (o : Outcome Record) → Moved M o → Ext (M .N) (acted M o .next .N)
     go (got (enter by g) n) u = u .ext
     go (got (remove by g) n) u = u .ext
+    go (got (confirm p g) n) u = u .ext
     go (got (query c) n) u = u .ext
     go (refused k) u = u .ext
 
@@ -52,7 +53,7 @@ number-kept ss M g e =
     ap (place g) (x .is) ∙ place-grows g (M .N) (x .more) (has-lt g (M .N) e)
 
 -- and the rows of a book that calls reached stay the first of those that more calls leave.
-pub rows-kept : {b b′ : Book} {m m′ : List ℕ} {cs ds : List Call} → Chain freshBook freshMarks cs b m → Chain b m ds b′ m′ →
+pub rows-kept : {b b′ : Book} {m m′ k k′ : List ℕ} {cs ds : List Call} → Chain freshBook freshMarks freshMarks cs b m k → Chain b m k ds b′ m′ k′ →
     Ext (rowsOut (b .table .rows) (b .table .count)) (rowsOut (b′ .table .rows) (b′ .table .count))
 rows-kept {b} {b′} {cs = cs} {ds = ds} K L =
     let A = after fresh-reached K .reached in

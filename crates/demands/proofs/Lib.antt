@@ -15,3 +15,4 @@ pub mod RowBack
 pub mod Shown
 pub mod Standings
 pub mod Unique
+pub mod Views

@@ -7,9 +7,9 @@ use native.Mathlib.Omega.{arith}
 use native.Mathlib.Nat.{not-suc-le-zero}
 use lib.ListN.{length, getD, replicate, length-replicate}
 use lib.Dec.{eqb}
-use Rattle.sorts.specs.declared.Status.the-variants.{Trusted, Issued}
+use Rattle.sorts.specs.declared.Status.the-variants.{Trusted, Issued, Provisional}
 use Rattle.sorts.specs.Numbers.{allMarks}
-use Rattle.sorts.specs.Flags.{allFlags, flagPlace}
+use Rattle.sorts.specs.Flags.{allFlags, flagPlace, flag}
 use Rattle.rows.specs.Form.{rowsOut}
 use Rattle.rows.proofs.Shown.{blank-shown, shown-form}
 use Rattle.rows.proofs.Bytes.{no-true}
@@ -18,42 +18,50 @@ use Rattle.rules.specs.Rules.{Closed}
 use Rattle.rules.specs.Standing.{In, Above, standing}
 use Rattle.rules.proofs.Standing.{standing-in, standing-length, standing-bits}
 use Rattle.rules.proofs.Saturation.{same-marks, zeroes-bits, zeroes-none}
-use Rattle.book.specs.declared.Book.{Book}
-use Rattle.book.specs.declared.Answer.{Answer}
-use Rattle.book.specs.declared.Answer.the-variants.{Permitted, NotPermitted, Refused}
-use Rattle.book.specs.declared.Answered.{Answered}
-use Rattle.book.specs.Machine.{State, Verdict, changes, asks, refuses, start, step, member}
+use Rattle.flags.specs.Both.{bothFlags}
+use Rattle.flags.proofs.Both.{both-firm}
+use Rattle.machine.specs.Machine.{State, Verdict, changes, asks, refuses, start, step, member}
 use Rattle.blocks.specs.Gains.{gains}
 use Rattle.marks.specs.Counts.{Statements, truths, sayings, ones, marksOf, changeOf, countsOf, changeIn}
-use Rattle.demands.specs.Worth.{reported}
-use Rattle.book.specs.Books.{BookForm, Shows}
-use Rattle.book.specs.Calls.{answerOf, marksAfter, Follows, Called}
+use Rattle.book.specs.declared.Book.{Book}
+use Rattle.book.specs.declared.Answer.{Answer}
+use Rattle.book.specs.declared.Answer.the-variants.{Permitted, Open, NotPermitted, Refused}
+use Rattle.book.specs.declared.Answered.{Answered}
+use Rattle.book.specs.Books.{MarksForm, BookForm, Shows}
+use Rattle.book.specs.Calls.{answerAt, answerOf, marksAfter, secondAfter, Follows, Called}
 use Rattle.book.specs.Chains.{freshBook, freshMarks}
-use Rattle.demands.proofs.Balance.{balance, none-gained, kind-bits, kind-length, kind-above}
 use Rattle.book.proofs.Forms.{table-rows}
+use Rattle.demands.specs.Worth.{reported}
+use Rattle.demands.proofs.Balance.{balance, none-gained, kind-bits, kind-length, kind-above}
+use Rattle.demands.proofs.Views.{View, firm, both, marksIn}
 use Rattle.demands.proofs.Moving.{asks-still, Up, Down}
 use Rattle.demands.proofs.Standings.{up-stands, down-stands, still-stands}
 
--- in form, showing the machine's state, with the standing statements as its marks
-pub record Reached (b : Book) (m : List ℕ) (M : State) : Type 0 where
-  pub form : BookForm b m
+-- in form, showing the machine's state, with what stands in each view as its marks
+pub record Reached (b : Book) (m k : List ℕ) (M : State) : Type 0 where
+  pub form : BookForm b m k
   pub shows : Shows b M
-  pub stands : m ≡ standing (b .table .rows) (b .flags)
+  pub stands : m ≡ marksIn firm b
+  pub second : k ≡ marksIn both b
 
 -- a fresh book is reached
 
 fresh-flag : (i : ℕ) → getD (freshBook .flags) i 0 ≡ 0
 fresh-flag i = let b = zeroes-bits allFlags i in let n = zeroes-none allFlags i in omega (arith, b, n)
 
-pub fresh-form : BookForm freshBook freshMarks
+fresh-marks : MarksForm freshMarks
 unfolding freshMarks
+fresh-marks = record { count = length-replicate {A = ℕ} allMarks 0; bits = zeroes-bits allMarks }
+
+pub fresh-form : BookForm freshBook freshMarks freshMarks
 fresh-form = record {
-  marks = length-replicate {A = ℕ} allMarks 0;
-  markBits = zeroes-bits allMarks;
+  marks = fresh-marks;
+  second = fresh-marks;
   flags = length-replicate {A = ℕ} allFlags 0;
   flagBits = zeroes-bits allFlags;
   table = shown-form blank-shown;
   canonical = λ i l. absurd (omega arith);
+  apart = λ p g l i j. let z = fresh-flag (flagPlace (Issued p) g) in omega (arith, z, i);
   unflagged = λ i l. fresh-flag i;
 }
 
@@ -73,97 +81,149 @@ fresh-closed = record {
   authority = λ g x y z p v l s i h. s (fresh-flag (flagPlace (Issued (record { 0 = p })) g));
 }
 
-fresh-stands : freshMarks ≡ standing (freshBook .table .rows) (freshBook .flags)
+fresh-stands : freshMarks ≡ marksIn firm freshBook
 unfolding freshMarks
 fresh-stands =
     same-marks (replicate allMarks 0) (standing (freshBook .table .rows) (freshBook .flags)) (length-replicate {A = ℕ} allMarks 0 ∙ sym (standing-length (freshBook .table .rows) (freshBook .flags)))
     (zeroes-bits allMarks) (standing-bits (freshBook .table .rows) (freshBook .flags)) (λ n h. absurd (zeroes-none allMarks n h))
     (λ n h. absurd (standing-in (freshBook .table .rows) (freshBook .flags) (table-rows (freshBook .table) (fresh-form .table)) n .0 h (λ k. ⊥) fresh-closed))
 
-pub fresh-reached : Reached freshBook freshMarks start
-fresh-reached = record { form = fresh-form; shows = fresh-shows; stands = fresh-stands }
+-- and nothing is provisional
+fresh-both : bothFlags (freshBook .flags) ≡ freshBook .flags
+fresh-both = both-firm (freshBook .flags) (length-replicate {A = ℕ} allFlags 0) (λ p g k l. fresh-flag (flagPlace (Provisional p) g))
+
+pub fresh-reached : Reached freshBook freshMarks freshMarks start
+fresh-reached = record {
+  form = fresh-form;
+  shows = fresh-shows;
+  stands = fresh-stands;
+  second = fresh-stands ∙ ap (λ (f : List ℕ). standing (freshBook .table .rows) f) (sym fresh-both);
+}
 
 -- what is reported: of a change, the gains and losses of each kind; of a query and of a refusal, nothing
 
-counts-are : (k : Statements) (m n : List ℕ) →
-    (changeIn k (countsOf m n) .gained ≡ gains (marksOf k m) (marksOf k n)) × (changeIn k (countsOf m n) .lost ≡ gains (marksOf k n) (marksOf k m))
+counts-are : (j : Statements) (m n : List ℕ) →
+    (changeIn j (countsOf m n) .gained ≡ gains (marksOf j m) (marksOf j n)) × (changeIn j (countsOf m n) .lost ≡ gains (marksOf j n) (marksOf j m))
 unfolding countsOf changeOf
 counts-are truths m n = (refl, refl)
 counts-are sayings m n = (refl, refl)
 
-uncounted-no : (k : Statements) (b : Bool) → (reported k (cond b Permitted NotPermitted) .gained ≡ 0) × (reported k (cond b Permitted NotPermitted) .lost ≡ 0)
-uncounted-no truths true = (refl, refl)
-uncounted-no truths false = (refl, refl)
-uncounted-no sayings true = (refl, refl)
-uncounted-no sayings false = (refl, refl)
+abbrev Uncounted : Statements → Answer → Type 0
+Uncounted j a = (reported j a .gained ≡ 0) × (reported j a .lost ≡ 0)
 
-refused-no : (k : Statements) (j : ℕ) → (reported k (Refused j) .gained ≡ 0) × (reported k (Refused j) .lost ≡ 0)
-refused-no truths j = (refl, refl)
-refused-no sayings j = (refl, refl)
+permitted-no : (j : Statements) → Uncounted j Permitted
+permitted-no truths = (refl, refl)
+permitted-no sayings = (refl, refl)
+
+open-no : (j : Statements) → Uncounted j Open
+open-no truths = (refl, refl)
+open-no sayings = (refl, refl)
+
+denied-no : (j : Statements) → Uncounted j NotPermitted
+denied-no truths = (refl, refl)
+denied-no sayings = (refl, refl)
+
+uncounted-no : (j : Statements) (m k : List ℕ) (c : ℕ) → Uncounted j (answerAt m k c)
+uncounted-no j m k c = go (eqb (getD m c 0) 1) (eqb (getD k c 0) 1)
+  where
+    go : (a b : Bool) → Uncounted j (cond a Permitted (cond b Open NotPermitted))
+    go true b = permitted-no j
+    go false true = open-no j
+    go false false = denied-no j
+
+refused-no : (j : Statements) (i : ℕ) → Uncounted j (Refused i)
+refused-no truths i = (refl, refl)
+refused-no sayings i = (refl, refl)
 
 -- one call more
 
-module _ {b : Book} {m s : List ℕ} {r : Answered} {n : List ℕ} {M : State} (R : Reached b m M) (C : Called b m s r n) where
-  pub fol : Follows M b m s r n
+-- the marks that a call leaves in each buffer
+abbrev afterIn : View → Verdict → Book → List ℕ → List ℕ
+afterIn firm w b m = marksAfter w b m
+afterIn both w b m = secondAfter w b m
+
+module _ {b : Book} {m k s : List ℕ} {r : Answered} {n l : List ℕ} {M : State} (R : Reached b m k M) (C : Called b m k s r n l) where
+  pub fol : Follows M b m k s r n l
   fol = C .formed (R .form) M (R .shows)
 
   -- a query leaves the standing statements as they are; so does a refusal
-  stands-after : (v : Verdict) → step M s .says ≡ v → n ≡ marksAfter v (r .book) m → n ≡ standing (r .book .table .rows) (r .book .flags)
-  unfolding marksAfter step
-  stands-after changes e h = h
-  stands-after (asks c) e h =
-      let q = asks-still M (readCanonical s) c e in
-      h ∙ R .stands ∙ still-stands (R .form) (R .shows) (fol .form) (fol .shows) (q .ext) (q .grows) (q .shrinks)
-  stands-after (refuses k) e h = h ∙ R .stands ∙ ap (λ (x : Book). standing (x .table .rows) (x .flags)) (sym (fol .kept k e))
+  asked-after : (v : View) (c : ℕ) → step M s .says ≡ asks c → marksIn v b ≡ marksIn v (r .book)
+  unfolding step
+  asked-after v c e = let q = asks-still M (readCanonical s) c e in still-stands (R .form) (R .shows) (fol .form) (fol .shows) v (q .ext) (q .grows) (q .shrinks)
 
-  pub reached-after : Reached (r .book) n (step M s .next)
-  reached-after = record { form = fol .form; shows = fol .shows; stands = stands-after (step M s .says) refl (fol .marks) }
+  kept-after : (v : View) (j : ℕ) → step M s .says ≡ refuses j → marksIn v b ≡ marksIn v (r .book)
+  kept-after v j e = ap (λ (x : Book). marksIn v x) (sym (fol .kept j e))
+
+  stands-after : (v : View) (w : Verdict) → step M s .says ≡ w → (x y : List ℕ) → y ≡ afterIn v w (r .book) x → x ≡ marksIn v b → y ≡ marksIn v (r .book)
+  unfolding marksAfter secondAfter
+  stands-after firm changes e x y h q = h
+  stands-after both changes e x y h q = h
+  stands-after firm (asks c) e x y h q = h ∙ q ∙ asked-after firm c e
+  stands-after both (asks c) e x y h q = h ∙ q ∙ asked-after both c e
+  stands-after firm (refuses j) e x y h q = h ∙ q ∙ kept-after firm j e
+  stands-after both (refuses j) e x y h q = h ∙ q ∙ kept-after both j e
+
+  pub reached-after : Reached (r .book) n l (step M s .next)
+  reached-after = record {
+    form = fol .form;
+    shows = fol .shows;
+    stands = stands-after firm (step M s .says) refl m n (fol .marks) (R .stands);
+    second = stands-after both (step M s .says) refl k l (fol .second) (R .second);
+  }
 
   same-length : length m ≡ length n
-  same-length = R .form .marks ∙ sym (fol .form .marks)
+  same-length = R .form .marks .count ∙ sym (fol .form .marks .count)
 
   -- the answer's counts balance the marks of each kind
-  answer-balance : (k : Statements) (v : Verdict) → n ≡ marksAfter v (r .book) m →
-      reported k (answerOf v m n) .gained + ones (marksOf k m) ≡ reported k (answerOf v m n) .lost + ones (marksOf k n)
+  answer-balance : (j : Statements) (v : Verdict) → n ≡ marksAfter v (r .book) m →
+      reported j (answerOf v m k n) .gained + ones (marksOf j m) ≡ reported j (answerOf v m k n) .lost + ones (marksOf j n)
   unfolding marksAfter answerOf
-  answer-balance k changes h =
-      let e = balance (marksOf k m) (marksOf k n) (kind-length k m n same-length) (kind-bits k m (R .form .markBits)) (kind-bits k n (fol .form .markBits)) in
-      let c = counts-are k m n in
+  answer-balance j changes h =
+      let e = balance (marksOf j m) (marksOf j n) (kind-length j m n same-length) (kind-bits j m (R .form .marks .bits)) (kind-bits j n (fol .form .marks .bits)) in
+      let c = counts-are j m n in
       omega (arith, e, c .0, c .1)
-  answer-balance k (asks c) h = omega (arith, ap (λ (l : List ℕ). ones (marksOf k l)) h, uncounted-no k (eqb (getD m c 0) 1) .0, uncounted-no k (eqb (getD m c 0) 1) .1)
-  answer-balance k (refuses j) h = omega (arith, ap (λ (l : List ℕ). ones (marksOf k l)) h, refused-no k j .0, refused-no k j .1)
+  answer-balance j (asks c) h = omega (arith, ap (λ (x : List ℕ). ones (marksOf j x)) h, uncounted-no j m k c .0, uncounted-no j m k c .1)
+  answer-balance j (refuses i) h = omega (arith, ap (λ (x : List ℕ). ones (marksOf j x)) h, refused-no j i .0, refused-no j i .1)
 
-  pub call-balance : (k : Statements) → reported k (r .answer) .gained + ones (marksOf k m) ≡ reported k (r .answer) .lost + ones (marksOf k n)
-  call-balance k =
-      ap (λ (a : Answer). reported k a .gained + ones (marksOf k m)) (fol .answer) ∙ answer-balance k (step M s .says) (fol .marks) ∙
-      ap (λ (a : Answer). reported k a .lost + ones (marksOf k n)) (sym (fol .answer))
+  pub call-balance : (j : Statements) → reported j (r .answer) .gained + ones (marksOf j m) ≡ reported j (r .answer) .lost + ones (marksOf j n)
+  call-balance j =
+      ap (λ (a : Answer). reported j a .gained + ones (marksOf j m)) (fol .answer) ∙ answer-balance j (step M s .says) (fol .marks) ∙
+      ap (λ (a : Answer). reported j a .lost + ones (marksOf j n)) (sym (fol .answer))
 
   -- what the answer reports lost or gained is so
-  answer-lost : (k : Statements) (v : Verdict) → gains (marksOf k n) (marksOf k m) ≡ 0 → reported k (answerOf v m n) .lost ≡ 0
+  answer-lost : (j : Statements) (v : Verdict) → gains (marksOf j n) (marksOf j m) ≡ 0 → reported j (answerOf v m k n) .lost ≡ 0
   unfolding answerOf
-  answer-lost k changes h = counts-are k m n .1 ∙ h
-  answer-lost k (asks c) h = uncounted-no k (eqb (getD m c 0) 1) .1
-  answer-lost k (refuses j) h = refused-no k j .1
+  answer-lost j changes h = counts-are j m n .1 ∙ h
+  answer-lost j (asks c) h = uncounted-no j m k c .1
+  answer-lost j (refuses i) h = refused-no j i .1
 
-  answer-gained : (k : Statements) (v : Verdict) → gains (marksOf k m) (marksOf k n) ≡ 0 → reported k (answerOf v m n) .gained ≡ 0
+  answer-gained : (j : Statements) (v : Verdict) → gains (marksOf j m) (marksOf j n) ≡ 0 → reported j (answerOf v m k n) .gained ≡ 0
   unfolding answerOf
-  answer-gained k changes h = counts-are k m n .0 ∙ h
-  answer-gained k (asks c) h = uncounted-no k (eqb (getD m c 0) 1) .0
-  answer-gained k (refuses j) h = refused-no k j .0
+  answer-gained j changes h = counts-are j m n .0 ∙ h
+  answer-gained j (asks c) h = uncounted-no j m k c .0
+  answer-gained j (refuses i) h = refused-no j i .0
 
-  stands′ : n ≡ standing (r .book .table .rows) (r .book .flags)
-  stands′ = reached-after .stands
+  -- marks x before and y after, in a view: of what stands before nothing is missing after, or the other way round
+  none-lost : Up M (step M s .next) → (v : View) (x y : List ℕ) → MarksForm x → MarksForm y → x ≡ marksIn v b → y ≡ marksIn v (r .book) → (j : Statements) → gains (marksOf j y) (marksOf j x) ≡ 0
+  none-lost u v x y f g e h j =
+      let a = up-stands (R .form) (R .shows) (fol .form) (fol .shows) v (u .ext) (u .grows) in
+      let kept : Above x (In y) = λ i p. subst (λ (z : List ℕ). In z i) (sym h) (a i (subst (λ (z : List ℕ). In z i) e p)) in
+      none-gained (marksOf j y) (marksOf j x) (kind-bits j y (g .bits)) (kind-bits j x (f .bits)) (kind-above j y x kept)
 
-  pub no-loss : Up M (step M s .next) → (k : Statements) → (reported k (r .answer) .lost ≡ 0) × (gains (marksOf k n) (marksOf k m) ≡ 0)
-  no-loss u k =
-      let a = up-stands (R .form) (R .shows) (fol .form) (fol .shows) (u .ext) (u .grows) in
-      let kept : Above m (In n) = λ i h. subst (λ (x : List ℕ). In x i) (sym stands′) (a i (subst (λ (x : List ℕ). In x i) (R .stands) h)) in
-      let g = none-gained (marksOf k n) (marksOf k m) (kind-bits k n (fol .form .markBits)) (kind-bits k m (R .form .markBits)) (kind-above k n m kept) in
-      (ap (λ (a : Answer). reported k a .lost) (fol .answer) ∙ answer-lost k (step M s .says) g, g)
+  none-more : Down M (step M s .next) → (v : View) (x y : List ℕ) → MarksForm x → MarksForm y → x ≡ marksIn v b → y ≡ marksIn v (r .book) → (j : Statements) → gains (marksOf j x) (marksOf j y) ≡ 0
+  none-more d v x y f g e h j =
+      let a = down-stands (R .form) (R .shows) (fol .form) (fol .shows) v (d .ext) (d .shrinks) in
+      let kept : Above y (In x) = λ i p. subst (λ (z : List ℕ). In z i) (sym e) (a i (subst (λ (z : List ℕ). In z i) h p)) in
+      none-gained (marksOf j x) (marksOf j y) (kind-bits j x (f .bits)) (kind-bits j y (g .bits)) (kind-above j x y kept)
 
-  pub no-gain : Down M (step M s .next) → (k : Statements) → (reported k (r .answer) .gained ≡ 0) × (gains (marksOf k m) (marksOf k n) ≡ 0)
-  no-gain d k =
-      let a = down-stands (R .form) (R .shows) (fol .form) (fol .shows) (d .ext) (d .shrinks) in
-      let kept : Above n (In m) = λ i h. subst (λ (x : List ℕ). In x i) (sym (R .stands)) (a i (subst (λ (x : List ℕ). In x i) stands′ h)) in
-      let g = none-gained (marksOf k m) (marksOf k n) (kind-bits k m (R .form .markBits)) (kind-bits k n (fol .form .markBits)) (kind-above k m n kept) in
-      (ap (λ (a : Answer). reported k a .gained) (fol .answer) ∙ answer-gained k (step M s .says) g, g)
+  pub no-loss : Up M (step M s .next) → (j : Statements) →
+      (reported j (r .answer) .lost ≡ 0) × (gains (marksOf j n) (marksOf j m) ≡ 0) × (gains (marksOf j l) (marksOf j k) ≡ 0)
+  no-loss u j =
+      let g = none-lost u firm m n (R .form .marks) (fol .form .marks) (R .stands) (reached-after .stands) j in
+      (ap (λ (a : Answer). reported j a .lost) (fol .answer) ∙ answer-lost j (step M s .says) g, g, none-lost u both k l (R .form .second) (fol .form .second) (R .second) (reached-after .second) j)
+
+  pub no-gain : Down M (step M s .next) → (j : Statements) →
+      (reported j (r .answer) .gained ≡ 0) × (gains (marksOf j m) (marksOf j n) ≡ 0) × (gains (marksOf j k) (marksOf j l) ≡ 0)
+  no-gain d j =
+      let g = none-more d firm m n (R .form .marks) (fol .form .marks) (R .stands) (reached-after .stands) j in
+      (ap (λ (a : Answer). reported j a .gained) (fol .answer) ∙ answer-gained j (step M s .says) g, g, none-more d both k l (R .form .second) (fol .form .second) (R .second) (reached-after .second) j)

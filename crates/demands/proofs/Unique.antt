@@ -14,21 +14,21 @@ use Rattle.rows.proofs.Shown.{Shown}
 use Rattle.rows.proofs.Appended.{ext-refl}
 use Rattle.book.specs.declared.Book.{Book}
 use Rattle.book.specs.declared.Answered.{Answered}
-use Rattle.book.specs.Machine.{State, step}
+use Rattle.machine.specs.Machine.{State, step}
 use Rattle.book.specs.Books.{BookForm, Shows}
-use Rattle.book.specs.Calls.{answerOf, marksAfter, Called}
+use Rattle.book.specs.Calls.{answerOf, marksAfter, secondAfter, Called}
 use Rattle.demands.proofs.ClosedBook.{shown}
 use Rattle.demands.proofs.RowBack.{shown-more}
 use Rattle.demands.proofs.Shown.{shows-some}
 
 -- two books in form that show the same state are the same
 
-module _ {b b′ : Book} {m m′ : List ℕ} {M : State} (f : BookForm b m) (f′ : BookForm b′ m′) (sh : Shows b M) (sh′ : Shows b′ M) where
+module _ {b b′ : Book} {m m′ k k′ : List ℕ} {M : State} (f : BookForm b m k) (f′ : BookForm b′ m′ k′) (sh : Shows b M) (sh′ : Shows b′ M) where
   S : Shown (b .table .rows) (b .table .count) (M .N)
-  S = shown b m M f sh
+  S = shown b m k M f sh
 
   S′ : Shown (b′ .table .rows) (b′ .table .count) (M .N)
-  S′ = shown b′ m′ M f′ sh′
+  S′ = shown b′ m′ k′ M f′ sh′
 
   same-count : b .table .count ≡ b′ .table .count
   same-count = S .counted ∙ sym (S′ .counted)
@@ -42,15 +42,15 @@ module _ {b b′ : Book} {m m′ : List ℕ} {M : State} (f : BookForm b m) (f�
 
   -- a flag of row g, by its status
   flag-at : (g j : ℕ) → j < rowFlags → g < length (M .N) → getD (b .flags) (rowFlags * g + j) 0 ≡ getD (b′ .flags) (rowFlags * g + j) 0
-  flag-at g j k l =
+  flag-at g j r l =
       let e : rowFlags * g + j ≡ flagPlace (statusOf j) g = ap (λ (i : ℕ). rowFlags * g + i) (sym (status-flag j)) in
-      let w = status-range j k in
+      let w = status-range j r in
       ap (λ (i : ℕ). getD (b .flags) i 0) e ∙ sh .flags (statusOf j) g w l ∙ sym (sh′ .flags (statusOf j) g w l) ∙ ap (λ (i : ℕ). getD (b′ .flags) i 0) (sym e)
 
   flags-at : (i : ℕ) → Dec (i / rowFlags < length (M .N)) → getD (b .flags) i 0 ≡ getD (b′ .flags) i 0
   flags-at i (yes h) =
       let e : i ≡ rowFlags * (i / rowFlags) + i % rowFlags = omega arith in
-      ap (λ (k : ℕ). getD (b .flags) k 0) e ∙ flag-at (i / rowFlags) (i % rowFlags) (omega arith) h ∙ ap (λ (k : ℕ). getD (b′ .flags) k 0) (sym e)
+      ap (λ (j : ℕ). getD (b .flags) j 0) e ∙ flag-at (i / rowFlags) (i % rowFlags) (omega arith) h ∙ ap (λ (j : ℕ). getD (b′ .flags) j 0) (sym e)
   flags-at i (no h) =
       let c = S .counted in
       let c′ = S′ .counted in
@@ -63,20 +63,22 @@ module _ {b b′ : Book} {m m′ : List ℕ} {M : State} (f : BookForm b m) (f�
   same-book = λ i. record { table = record { rows = same-rows i; count = same-count i }; flags = same-flags i }
 
 -- Two calls with the same book in form, marks and bytes have the same answer, bytes used, book and marks.
-no-choice-formed : (b : Book) (m s : List ℕ) (M : State) → BookForm b m → Shows b M → (r r′ : Answered) (n n′ : List ℕ) → Called b m s r n → Called b m s r′ n′ → (r ≡ r′) × (n ≡ n′)
-no-choice-formed b m s M f sh r r′ n n′ C C′ =
+no-choice-formed : (b : Book) (m k s : List ℕ) (M : State) → BookForm b m k → Shows b M → (r r′ : Answered) (n n′ l l′ : List ℕ) →
+    Called b m k s r n l → Called b m k s r′ n′ l′ → (r ≡ r′) × (n ≡ n′) × (l ≡ l′)
+no-choice-formed b m k s M f sh r r′ n n′ l l′ C C′ =
     let F = C .formed f M sh in
     let F′ = C′ .formed f M sh in
     let book : r .book ≡ r′ .book = same-book (F .form) (F′ .form) (F .shows) (F′ .shows) in
     let marks : n ≡ n′ = F .marks ∙ ap (λ (x : Book). marksAfter (step M s .says) x m) book ∙ sym (F′ .marks) in
-    let answer : r .answer ≡ r′ .answer = F .answer ∙ ap (answerOf (step M s .says) m) marks ∙ sym (F′ .answer) in
+    let second : l ≡ l′ = F .second ∙ ap (λ (x : Book). secondAfter (step M s .says) x k) book ∙ sym (F′ .second) in
+    let answer : r .answer ≡ r′ .answer = F .answer ∙ ap (answerOf (step M s .says) m k) marks ∙ sym (F′ .answer) in
     let used : r .used ≡ r′ .used = F .used ∙ sym (F′ .used) in
-    (λ i. record { book = book i; answer = answer i; used = used i }, marks)
+    (λ i. record { book = book i; answer = answer i; used = used i }, marks, second)
 
 -- whatever book, marks and bytes
-pub no-choice : (b : Book) (m s : List ℕ) (r r′ : Answered) (n n′ : List ℕ) → Called b m s r n → Called b m s r′ n′ → (r ≡ r′) × (n ≡ n′)
-no-choice b m s r r′ n n′ C C′ = by (C .decided)
+pub no-choice : (b : Book) (m k s : List ℕ) (r r′ : Answered) (n n′ l l′ : List ℕ) → Called b m k s r n l → Called b m k s r′ n′ l′ → (r ≡ r′) × (n ≡ n′) × (l ≡ l′)
+no-choice b m k s r r′ n n′ l l′ C C′ = by (C .decided)
   where
-    by : BookForm b m ⊎ (BookForm b m → ⊥) → (r ≡ r′) × (n ≡ n′)
-    by (inl f) = let w = shows-some b m f in no-choice-formed b m s (w .0) f (w .1) r r′ n n′ C C′
-    by (inr d) = let x = C .unformed d in let y = C′ .unformed d in (x .0 ∙ sym (y .0), x .1 ∙ sym (y .1))
+    by : BookForm b m k ⊎ (BookForm b m k → ⊥) → (r ≡ r′) × (n ≡ n′) × (l ≡ l′)
+    by (inl f) = let w = shows-some b m k f in no-choice-formed b m k s (w .0) f (w .1) r r′ n n′ l l′ C C′
+    by (inr d) = let x = C .unformed d in let y = C′ .unformed d in (x .0 ∙ sym (y .0), x .1 ∙ sym (y .1), x .2 ∙ sym (y .2))

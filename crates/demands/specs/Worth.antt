@@ -6,7 +6,7 @@ use lib.IntN.{pos}
 use Rattle.marks.specs.declared.Change.{Change}
 use Rattle.marks.specs.declared.Counts.{Counts}
 use Rattle.book.specs.declared.Answer.{Answer}
-use Rattle.book.specs.declared.Answer.the-variants.{Permitted, NotPermitted, Changed, Refused}
+use Rattle.book.specs.declared.Answer.the-variants.{Permitted, Open, NotPermitted, Changed, Refused}
 use Rattle.marks.specs.Counts.{Statements, changeIn}
 use Rattle.book.specs.Chains.{Call}
 
@@ -27,6 +27,7 @@ uncounted k = record { number = k; counts = noCounts }
 
 abbrev pub worth : Answer → Worth
 worth Permitted = uncounted none
+worth Open = uncounted none
 worth NotPermitted = uncounted none
 worth (Changed c) = record { number = none; counts = c }
 worth (Refused k) = uncounted (some k)
