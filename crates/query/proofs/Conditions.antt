@@ -11,16 +11,16 @@ use lib.Dec.{T, eqb, eqb→eq, eqb-refl}
 use lib.ListN.{length, getD}
 use Rattle.sorts.specs.declared.Row.{Row}
 use Rattle.sorts.specs.declared.Status.{Status}
-use Rattle.sorts.specs.declared.Status.the-variants.{Trusted, Issued}
+use Rattle.sorts.specs.declared.Status.the-variants.{Trusted, Issued, Provisional}
 use Rattle.rows.specs.Written.{Grant}
 use Rattle.rows.specs.Numbering.{place}
 use Rattle.rows.specs.Form.{rowOf}
 use Rattle.rules.specs.Rules.{granted, issueMark, firstValues, secondValues, resourceValues}
 use Rattle.rules.specs.Standing.{All, Some, each}
 use Rattle.rules.proofs.Lists.{some-each, some-one, some-join}
-use Rattle.book.specs.Machine.{State, Entry, sameEntry, member}
-use Rattle.book.proofs.Sets.{entry-refl, member-cases}
-use Rattle.query.specs.Figures.{Said, Condition, some, conditionUnder, conditionsOf, conditions, issuedBy, allowed, holds2, Licence, licenceOf, trustedOf, licences, trusts}
+use Rattle.machine.specs.Machine.{State, Entry, sameEntry, member, entry}
+use Rattle.machine.proofs.Sets.{entry-refl, member-cases}
+use Rattle.query.specs.Figures.{Chosen, Said, Condition, some, conditionUnder, conditionsOf, conditions, issuedBy, allowed, holds2, Licence, licenceOf, trustedOf, licences, trusts}
 
 -- tests on lists
 
@@ -240,44 +240,61 @@ is-later x y E h = go (sameEntry x y)
     go true = refl
     go false = h
 
--- who issued it, where somebody did
-abbrev issuerOf : Status → ℕ
-issuerOf Trusted = 0
-issuerOf (Issued p) = p .0
-
--- a licence and a trusted grant, as the machine has them
+-- a licence, firm or provisional, and a trusted grant, as the machine has them
 abbrev issued : Licence → Entry
-issued l = record { by = Issued (record { 0 = l .issuer }); what = l .what }
+issued l = entry (Issued (record { 0 = l .issuer })) (l .what)
+
+abbrev waiting : Licence → Entry
+waiting l = entry (Provisional (record { 0 = l .issuer })) (l .what)
 
 abbrev trusted : Grant → Entry
-trusted g = record { by = Trusted; what = g }
+trusted g = entry Trusted g
 
-pub licence-some : (l : Licence) (E : List Entry) → member (issued l) E ≡ true → Some (λ m. m ≡ l) (licences E)
-unfolding licences member
-licence-some l [] e = absurd (subst T (sym e) tt)
-licence-some l (y ∷ E) e = go (y .by) refl (λ h. licence-some l E h) (member-cases (issued l) y E e)
-  where
-    go : (s : Status) → y .by ≡ s → (member (issued l) E ≡ true → Some (λ m. m ≡ l) (licences E)) →
-        (issued l ≡ y) ⊎ (member (issued l) E ≡ true) → Some (λ m. m ≡ l) (licenceOf s (y .what) ++ licences E)
-    go Trusted q ih (inl d) = let z : _≡_ {A = ℕ} 0 1 = cc in absurd (omega arith)
-    go Trusted q ih (inr h) = ih h
-    go (Issued p) q ih (inl d) = inl (λ i. record { issuer = issuer i; what = sym d i .what })
-      where
-        issuer : p .0 ≡ l .issuer
-        issuer = ap (λ (s : Status). issuerOf s) (sym q ∙ ap (λ (x : Entry). x .by) (sym d))
-    go (Issued p) q ih (inr h) = inr (ih h)
+module _ (C : Chosen) (N : List Grant) (l : Licence) where
+  -- the licence is firm, or provisional and chosen
+  abbrev pub Counts : List Entry → Type 0
+  Counts E = (member (issued l) E ≡ true) ⊎ ((member (waiting l) E ≡ true) × (C (l .issuer) (place (l .what) N) ≡ true))
 
-pub some-licence : (l : Licence) (E : List Entry) → Some (λ m. m ≡ l) (licences E) → member (issued l) E ≡ true
-unfolding licences
-some-licence l [] h = absurd h
-some-licence l (y ∷ E) h = go (y .by) refl (λ k. is-later (issued l) y E (some-licence l E k)) h
-  where
-    go : (s : Status) → y .by ≡ s → (Some (λ m. m ≡ l) (licences E) → member (issued l) (y ∷ E) ≡ true) →
-        Some (λ m. m ≡ l) (licenceOf s (y .what) ++ licences E) → member (issued l) (y ∷ E) ≡ true
-    go Trusted q ih k = ih k
-    go (Issued p) q ih (inl d) =
-        subst (λ (x : Entry). member x (y ∷ E) ≡ true) (λ i. record { by = (q ∙ ap (λ (m : Licence). Issued (record { 0 = m .issuer })) d) i; what = d i .what }) (is-first y E)
-    go (Issued p) q ih (inr k) = ih k
+  -- an entry is in L where its licence is
+  member-licence : (by : Status) → Some (λ m. m ≡ l) (licenceOf C N by (l .what)) → (E : List Entry) → member (entry by (l .what)) E ≡ true → Some (λ m. m ≡ l) (licences C N E)
+  unfolding licences member
+  member-licence by h [] e = absurd (subst T (sym e) tt)
+  member-licence by h (y ∷ E) e =
+      ⊎-elim
+      (λ d. some-left (λ m. m ≡ l) (licenceOf C N (y .by) (y .what)) (licences C N E) (subst (λ (x : Entry). Some (λ m. m ≡ l) (licenceOf C N (x .by) (x .what))) d h))
+      (λ k. some-right (λ m. m ≡ l) (licenceOf C N (y .by) (y .what)) (licences C N E) (member-licence by h E k))
+      (member-cases (entry by (l .what)) y E e)
+
+  pub licence-some : (E : List Entry) → Counts E → Some (λ m. m ≡ l) (licences C N E)
+  licence-some E (inl h) = member-licence (Issued (record { 0 = l .issuer })) (inl refl) E h
+  licence-some E (inr h) = member-licence (Provisional (record { 0 = l .issuer })) (rw (h .1) (inl refl)) E (h .0)
+
+  later : (y : Entry) (E : List Entry) → Counts E → Counts (y ∷ E)
+  later y E (inl h) = inl (is-later (issued l) y E h)
+  later y E (inr h) = inr (is-later (waiting l) y E (h .0), h .1)
+
+  pub some-licence : (E : List Entry) → Some (λ m. m ≡ l) (licences C N E) → Counts E
+  unfolding licences
+  some-licence [] h = absurd h
+  some-licence (y ∷ E) h =
+      ⊎-elim (λ k. here (y .by) refl k) (λ k. later y E (some-licence E k)) (some-join (λ m. m ≡ l) (licenceOf C N (y .by) (y .what)) (licences C N E) h)
+    where
+      chosen : (t : Bool) (m : Licence) → Some (λ n. n ≡ l) (cond t (m ∷ []) []) → (t ≡ true) × (m ≡ l)
+      chosen true m k = (refl, some-one (λ n. n ≡ l) m k)
+      chosen false m k = absurd k
+
+      here : (s : Status) → y .by ≡ s → Some (λ m. m ≡ l) (licenceOf C N s (y .what)) → Counts (y ∷ E)
+      here Trusted q k = absurd k
+      here (Issued p) q k =
+          let d = some-one (λ m. m ≡ l) (record { issuer = p .0; what = y .what }) k in
+          inl (subst (λ (x : Entry). member x (y ∷ E) ≡ true) (λ i. record { by = (q ∙ ap (λ (m : Licence). Issued (record { 0 = m .issuer })) d) i; what = d i .what }) (is-first y E))
+      here (Provisional p) q k =
+          let w = chosen (C (p .0) (place (y .what) N)) (record { issuer = p .0; what = y .what }) k in
+          let d = w .1 in
+          inr (
+            subst (λ (x : Entry). member x (y ∷ E) ≡ true) (λ i. record { by = (q ∙ ap (λ (m : Licence). Provisional (record { 0 = m .issuer })) d) i; what = d i .what }) (is-first y E),
+            ap (λ (m : Licence). C (m .issuer) (place (m .what) N)) (sym d) ∙ w .0,
+          )
 
 pub trusted-some : (g : Grant) (E : List Entry) → member (trusted g) E ≡ true → Some (λ h. h ≡ g) (trusts E)
 unfolding trusts member
@@ -290,6 +307,8 @@ trusted-some g (y ∷ E) e = go (y .by) refl (λ h. trusted-some g E h) (member-
     go Trusted q ih (inr h) = inr (ih h)
     go (Issued p) q ih (inl d) = let z : _≡_ {A = ℕ} 0 1 = cc in absurd (omega arith)
     go (Issued p) q ih (inr h) = ih h
+    go (Provisional p) q ih (inl d) = let z : _≡_ {A = ℕ} 0 1 = cc in absurd (omega arith)
+    go (Provisional p) q ih (inr h) = ih h
 
 pub some-trusted : (g : Grant) (E : List Entry) → Some (λ h. h ≡ g) (trusts E) → member (trusted g) E ≡ true
 unfolding trusts
@@ -301,3 +320,4 @@ some-trusted g (y ∷ E) h = go (y .by) refl (λ k. is-later (trusted g) y E (so
     go Trusted q ih (inl d) = subst (λ (x : Entry). member x (y ∷ E) ≡ true) (λ i. record { by = q i; what = d i }) (is-first y E)
     go Trusted q ih (inr k) = ih k
     go (Issued p) q ih k = ih k
+    go (Provisional p) q ih k = ih k

@@ -12,8 +12,8 @@ use Rattle.rows.specs.Form.{rowOf}
 use Rattle.rules.specs.Rules.{issueMark}
 use Rattle.rules.specs.Standing.{All, Some}
 use Rattle.rules.proofs.Lists.{some-one, some-join}
-use Rattle.book.specs.Machine.{State}
-use Rattle.query.specs.Figures.{Said, sameSaid, Condition, some, conditions, issuedBy, allowed, holds2, said2, auth2, query2, Licence, licencesIn, trustedIn}
+use Rattle.machine.specs.Machine.{State}
+use Rattle.query.specs.Figures.{Chosen, Said, sameSaid, Condition, some, conditions, issuedBy, allowed, holds2, said2, auth2, query2, Licence, licencesIn, trustedIn}
 use Rattle.query.specs.Query.{sayings, saidWithin, queryWithin, fullSaid, implied}
 use Rattle.query.specs.Executions.{Order, SameMembers, Fair, asWritten, turn, partsTurned, Asked, Told, Asking, tell, Passing, handedBack, someTold, everyTold, saidTold, holdsTold, allowedTold, authTold, queryTold, impliedTold}
 use Rattle.query.proofs.Search.{same-answer}
@@ -89,7 +89,7 @@ module _ (pass : Passing) (back : (got left : Asked) → pass got left ≡ got) 
         ∙ (λ i. cond (h a i) (everyTold pass f l (back w (f a w .asked) i) .answer) false)
         ∙ ap (λ (t : Bool). cond (g a) t false) (every-told l)
 
-  module _ (order : Order) (fair : Fair order) (M : State) where
+  module _ (order : Order) (fair : Fair order) (M : State) (C : Chosen) where
     -- a condition, with its parts in order
     parts-told : (f : Said → Asking Bool) (said : Said → List Said → Bool) (w : Asked) (S : List Said) → ((d : Said) → f d w .answer ≡ said d S) →
         (d : Condition) → everyTold pass f (order .parts d) w .answer ≡ holds2 said d S
@@ -98,77 +98,77 @@ module _ (pass : Passing) (back : (got left : Asked) → pass got left ≡ got) 
         ∙ every-members (λ dᵢ. said dᵢ S) (order .parts d) d (fair .parts d)
         ∙ sym (holds-every said d S)
 
-    said-told : (k : ℕ) (d : Said) (w : Asked) → saidTold pass order M k d w .answer ≡ saidWithin M false k d (w .S)
+    said-told : (k : ℕ) (d : Said) (w : Asked) → saidTold pass order M C k d w .answer ≡ saidWithin M C false k d (w .S)
     unfolding saidTold saidWithin said2
     said-told zero d w = refl
     said-told (suc k) d w =
         let next : Asked = record { E = w .E; S = d ∷ w .S } in
-        let D = conditions (M .N) (issuedBy (d .speaker) (licencesIn M)) (d .what) in
-        let f : Condition → Asking Bool = λ d′ w′. everyTold pass (λ dᵢ w″. saidTold pass order M k dᵢ w″) (order .parts d′) w′ in
-        let g : Condition → Bool = λ d′. holds2 (λ dᵢ S. saidWithin M false k dᵢ S) d′ (d ∷ w .S) in
+        let D = conditions (M .N) (issuedBy (d .speaker) (licencesIn M C)) (d .what) in
+        let f : Condition → Asking Bool = λ d′ w′. everyTold pass (λ dᵢ w″. saidTold pass order M C k dᵢ w″) (order .parts d′) w′ in
+        let g : Condition → Bool = λ d′. holds2 (λ dᵢ S. saidWithin M C false k dᵢ S) d′ (d ∷ w .S) in
         cond-answer (some (sameSaid d) (w .S)) (tell false w) (someTold pass f (order .tried D) next)
         ∙ ap (cond (some (sameSaid d) (w .S)) false)
-        (some-told f g next (parts-told (λ dᵢ w″. saidTold pass order M k dᵢ w″) (λ dᵢ S. saidWithin M false k dᵢ S) next (d ∷ w .S) (λ dᵢ. said-told k dᵢ next)) (order .tried D)
+        (some-told f g next (parts-told (λ dᵢ w″. saidTold pass order M C k dᵢ w″) (λ dᵢ S. saidWithin M C false k dᵢ S) next (d ∷ w .S) (λ dᵢ. said-told k dᵢ next)) (order .tried D)
         ∙ some-members g (order .tried D) D (fair .tried D))
 
-    holds-told : (d : Condition) (w : Asked) → w .S ≡ [] → holdsTold pass order M d w .answer ≡ holds2 (fullSaid M false) d []
+    holds-told : (d : Condition) (w : Asked) → w .S ≡ [] → holdsTold pass order M C d w .answer ≡ holds2 (fullSaid M C false) d []
     holds-told d w e =
-        parts-told (λ dᵢ w′. saidTold pass order M (suc sayings) dᵢ w′) (fullSaid M false) w [] (λ dᵢ. said-told (suc sayings) dᵢ w ∙ ap (fullSaid M false dᵢ) e) d
+        parts-told (λ dᵢ w′. saidTold pass order M C (suc sayings) dᵢ w′) (fullSaid M C false) w [] (λ dᵢ. said-told (suc sayings) dᵢ w ∙ ap (fullSaid M C false dᵢ) e) d
 
     module _ (f : ℕ → Asking Bool) (g : ℕ → Bool) (w : Asked) (h : (e : ℕ) → f e w .answer ≡ g e) where
-      allowed-told : (L : List Licence) → allowedTold pass order M f L w .answer ≡ allowed M g L
+      allowed-told : (L : List Licence) → allowedTold pass order M C f L w .answer ≡ allowed M g L
       unfolding allowedTold allowed
       allowed-told [] = refl
       allowed-told (l ∷ L) =
           let e = issueMark (l .issuer) (place (l .what) (M .N)) in
           (λ i.
-          let later = allowedTold pass order M f L (back w (f e w .asked) i) .answer in
+          let later = allowedTold pass order M C f L (back w (f e w .asked) i) .answer in
           cond (h e i) (l .what ∷ later) later)
           ∙ ap (λ R. cond (g e) (l .what ∷ R) R) (allowed-told L)
 
-      allowed-asked : (L : List Licence) → allowedTold pass order M f L w .asked ≡ w
+      allowed-asked : (L : List Licence) → allowedTold pass order M C f L w .asked ≡ w
       unfolding allowedTold
       allowed-asked [] = refl
       allowed-asked (l ∷ L) =
           let e = issueMark (l .issuer) (place (l .what) (M .N)) in
-          (λ i. allowedTold pass order M f L (back w (f e w .asked) i) .asked) ∙ allowed-asked L
+          (λ i. allowedTold pass order M C f L (back w (f e w .asked) i) .asked) ∙ allowed-asked L
 
     some-either : (f : Condition → Bool) (t : Bool) (D D′ : List Condition) → some f D ≡ some f D′ → some f (cond t [] D) ≡ some f (cond t [] D′)
     some-either f true D D′ e = refl
     some-either f false D D′ e = e
 
     -- what was said is not under way where a conclusion is asked for
-    query-told : (k e : ℕ) (w : Asked) → w .S ≡ [] → queryTold pass order M k e w .answer ≡ queryWithin M false k e (w .E)
+    query-told : (k e : ℕ) (w : Asked) → w .S ≡ [] → queryTold pass order M C k e w .answer ≡ queryWithin M C false k e (w .E)
     unfolding queryTold queryWithin authTold auth2 query2
     query-told zero e w s = refl
     query-told (suc k) e w s =
         let next : Asked = record { E = e ∷ w .E; S = w .S } in
-        let f : ℕ → Asking Bool = λ e′ w′. queryTold pass order M k e′ w′ in
-        let g : ℕ → Bool = λ e′. queryWithin M false k e′ (e ∷ w .E) in
+        let f : ℕ → Asking Bool = λ e′ w′. queryTold pass order M C k e′ w′ in
+        let g : ℕ → Bool = λ e′. queryWithin M C false k e′ (e ∷ w .E) in
         let ih : (e′ : ℕ) → f e′ next .answer ≡ g e′ = λ e′. query-told k e′ next s in
-        let L = order .licences (licencesIn M) in
-        let r = allowedTold pass order M f L next in
+        let L = order .licences (licencesIn M C) in
+        let r = allowedTold pass order M C f L next in
         let D : Told (List Condition) = record { answer = conditions (M .N) (trustedIn M ++ r .answer) e; asked = r .asked } in
         let listed = some (eqb e) (w .E) in
-        let C = cond listed (tell [] w) D in
-        let ok : Condition → Bool = λ d. holds2 (fullSaid M false) d [] in
-        some-told (holdsTold pass order M) ok (C .asked)
-        (λ d. holds-told d (C .asked) (unasked listed D (ap (λ (u : Asked). u .S) (allowed-asked f g next ih L) ∙ s))) (order .tried (C .answer))
-        ∙ some-members ok (order .tried (C .answer)) (C .answer) (fair .tried (C .answer))
+        let A = cond listed (tell [] w) D in
+        let ok : Condition → Bool = λ d. holds2 (fullSaid M C false) d [] in
+        some-told (holdsTold pass order M C) ok (A .asked)
+        (λ d. holds-told d (A .asked) (unasked listed D (ap (λ (u : Asked). u .S) (allowed-asked f g next ih L) ∙ s))) (order .tried (A .answer))
+        ∙ some-members ok (order .tried (A .answer)) (A .answer) (fair .tried (A .answer))
         ∙ ap (some ok)
         (cond-answer listed (tell [] w) D
         ∙ ap (λ (R : List Grant). cond listed [] (conditions (M .N) (trustedIn M ++ R) e)) (allowed-told f g next ih L))
-        ∙ some-either ok listed (conditions (M .N) (trustedIn M ++ allowed M g L) e) (conditions (M .N) (trustedIn M ++ allowed M g (licencesIn M)) e)
-        (allowed-members M ok g e L (licencesIn M) (fair .licences (licencesIn M)))
+        ∙ some-either ok listed (conditions (M .N) (trustedIn M ++ allowed M g L) e) (conditions (M .N) (trustedIn M ++ allowed M g (licencesIn M C)) e)
+        (allowed-members M ok g e L (licencesIn M C) (fair .licences (licencesIn M C)))
       where
         unasked : (t : Bool) (D : Told (List Condition)) → D .asked .S ≡ [] → cond t (tell [] w) D .asked .S ≡ []
         unasked true D q = s
         unasked false D q = q
 
 -- The order of conditions, of their parts and of the licences cannot change the corrected query's answer.
-pub handed-back : (order : Order) → Fair order → (M : State) (e : ℕ) → impliedTold handedBack order M e ≡ implied M false e
+pub handed-back : (order : Order) → Fair order → (M : State) (C : Chosen) (e : ℕ) → impliedTold handedBack order M C e ≡ implied M C false e
 unfolding impliedTold
-handed-back order fair M e = query-told handedBack (λ got left. refl) order fair M (suc conclusions) e (record { E = []; S = [] }) refl
+handed-back order fair M C e = query-told handedBack (λ got left. refl) order fair M C (suc conclusions) e (record { E = []; S = [] }) refl
 
 -- The two orders of the examples are fair.
 

@@ -6,10 +6,11 @@ use lib.Dec.{lit<}
 use Rattle.exact.specs.Writing.{writtenRecord}
 use Rattle.worked.specs.Worked.{P9}
 use Rattle.worked.proofs.Computing.{fed}
+use Rattle.query.specs.Figures.{Chosen}
 use Rattle.query.specs.Examples.{trusted2, Fault}
 use Rattle.query.proofs.Computing.{listed, figures, within, told}
 use Rattle.query.proofs.Book.{corrected-reached}
 
-pub fault : Fault
+pub fault : (C : Chosen) → Fault C
 unfolding listed fed figures within told
-fault = record { denied = refl; deniedTurned = refl; stands = corrected-reached (map writtenRecord (P9 .entries)) true .queried (trusted2 P9) (lit< tt) .0 .0 refl }
+fault C = record { denied = refl; deniedTurned = refl; stands = corrected-reached (map writtenRecord (P9 .entries)) C true .queried (trusted2 P9) (lit< tt) .0 .0 refl }

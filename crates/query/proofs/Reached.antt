@@ -5,7 +5,7 @@ use Prim.Native.Nat.{ℕ}
 use native.Mathlib.Omega.{arith}
 use Rattle.sorts.specs.RowForm.{RowForm}
 use Rattle.book.specs.declared.Book.{Book}
-use Rattle.book.specs.Machine.{State, start}
+use Rattle.machine.specs.Machine.{State, start}
 use Rattle.book.specs.Books.{BookForm, Shows}
 use Rattle.book.specs.Chains.{runs}
 use Rattle.book.proofs.Forms.{table-rows}
@@ -17,9 +17,9 @@ use Rattle.demands.proofs.Existence.{chain-some}
 use Rattle.query.specs.Query.{Formed}
 
 -- a state that a book in form shows
-pub formed : (b : Book) (m : List ℕ) (M : State) → BookForm b m → Shows b M → Formed M
-formed b m M f sh =
-    let S = shown b m M f sh in
+pub formed : (b : Book) (m k : List ℕ) (M : State) → BookForm b m k → Shows b M → Formed M
+formed b m k M f sh =
+    let S = shown b m k M f sh in
     let c = S .counted in
     let s = S .small in
     record {
@@ -34,4 +34,4 @@ pub reached-formed : (ss : List (List ℕ)) → Formed (runs start ss)
 reached-formed ss =
     let K = chain-some ss in
     let R = after fresh-reached (K .chain) .reached in
-    subst (λ (l : List (List ℕ)). Formed (runs start l)) (K .same) (formed (K .book) (K .marks) _ (R .form) (R .shows))
+    subst (λ (l : List (List ℕ)). Formed (runs start l)) (K .same) (formed (K .book) (K .marks) (K .second) _ (R .form) (R .shows))

@@ -15,8 +15,8 @@ use Rattle.rows.specs.Written.{Grant}
 use Rattle.rows.specs.Numbering.{place}
 use Rattle.rules.specs.Rules.{issueMark}
 use Rattle.rules.specs.Standing.{Some}
-use Rattle.book.specs.Machine.{State}
-use Rattle.query.specs.Figures.{Said, sameSaid, Condition, some, conditions, issuedBy, Licence, licencesIn, trustedIn}
+use Rattle.machine.specs.Machine.{State}
+use Rattle.query.specs.Figures.{Chosen, Said, sameSaid, Condition, some, conditions, issuedBy, Licence, licencesIn, trustedIn}
 use Rattle.query.specs.Query.{sayings}
 
 -- The order in which the parts of a condition, the conditions of D and the licences are gone through.
@@ -91,12 +91,12 @@ everyTold pass f (a ∷ l) w =
     let later = everyTold pass f l next in
     cond (r .answer) later (tell false next)
 
-module _ (pass : Passing) (order : Order) (M : State) where
+module _ (pass : Passing) (order : Order) (M : State) (C : Chosen) where
   -- Figure 6
   unfoldable pub saidTold : ℕ → Said → Asking Bool
   saidTold zero d w = tell false w
   saidTold (suc k) d w =
-      let D = order .tried (conditions (M .N) (issuedBy (d .speaker) (licencesIn M)) (d .what)) in
+      let D = order .tried (conditions (M .N) (issuedBy (d .speaker) (licencesIn M C)) (d .what)) in
       let found = someTold pass (λ d′ w′. everyTold pass (λ dᵢ w″. saidTold k dᵢ w″) (order .parts d′) w′) D (record { E = w .E; S = d ∷ w .S }) in
       cond (some (sameSaid d) (w .S)) (tell false w) found
 
@@ -113,7 +113,7 @@ module _ (pass : Passing) (order : Order) (M : State) where
 
   unfoldable pub authTold : (ℕ → Asking Bool) → ℕ → Asking (List Condition)
   authTold query e w =
-      let r = allowedTold query (order .licences (licencesIn M)) (record { E = e ∷ w .E; S = w .S }) in
+      let r = allowedTold query (order .licences (licencesIn M C)) (record { E = e ∷ w .E; S = w .S }) in
       let D : Told (List Condition) = record { answer = conditions (M .N) (trustedIn M ++ r .answer) e; asked = r .asked } in
       cond (some (eqb e) (w .E)) (tell [] w) D
 

@@ -1,7 +1,7 @@
 -- Document 000, section 3.3, the corrected query: figures 4 to 6, Query2(e, L, R, E), Auth2(e, L, R, E) and Holds2(d, L, S), over
--- the plain machine. L is its licences, R its trusted grants, and a grant's place in N is its number. Each figure stands here
--- once. Where a figure calls a figure the call is a parameter: `query` is Query2(.., L, R, ..), and `said` is Holds2(.., L, ..) of
--- one Said. What functions follow the figures is said in Query.
+-- the plain machine. L is its firm licences with those of its provisional ones that are chosen to become firm, R its trusted grants,
+-- and a grant's place in N is its number. Each figure stands here once. Where a figure calls a figure the call is a parameter:
+-- `query` is Query2(.., L, R, ..), and `said` is Holds2(.., L, ..) of one Said. What functions follow the figures is said in Query.
 use Prim.Native.Nat.{ℕ}
 use mathlib.Core.Bool.{Bool, true, false, _&&_, cond}
 use mathlib.Core.List.{List, [], _∷_, _++_}
@@ -10,7 +10,7 @@ use lib.ListN.{getD}
 use Rattle.sorts.specs.declared.Cond.{Cond}
 use Rattle.sorts.specs.declared.Row.{Row}
 use Rattle.sorts.specs.declared.Status.{Status}
-use Rattle.sorts.specs.declared.Status.the-variants.{Trusted, Issued}
+use Rattle.sorts.specs.declared.Status.the-variants.{Trusted, Issued, Provisional}
 use Rattle.sorts.specs.Numbers.{numberOf}
 use Rattle.sorts.specs.Blank.{blankCond}
 use Rattle.rows.specs.Written.{Grant}
@@ -18,32 +18,46 @@ use Rattle.rows.specs.Numbering.{place}
 use Rattle.rows.specs.Form.{rowOf}
 use Rattle.rules.specs.Rules.{prinUnder, conclUnder, granted, issueMark, firstValues, secondValues, resourceValues}
 use Rattle.rules.specs.Standing.{each}
-use Rattle.book.specs.Machine.{State, Entry}
+use Rattle.machine.specs.Machine.{State, Entry}
 
 -- A license (p, g) of document 000.
 pub record Licence : Type 0 where
   pub issuer : ℕ
   pub what : Grant
 
--- The licences and the trusted grants of the machine, L and R.
-abbrev pub licenceOf : Status → Grant → List Licence
-licenceOf Trusted g = []
-licenceOf (Issued p) g = record { issuer = p .0; what = g } ∷ []
+-- Document 02, 5: a "choice of which provisional licences become firm", as a test, by issuer and grant number. It is not asked of a
+-- licence that is firm.
+abbrev pub Chosen : Type 0
+Chosen = ℕ → ℕ → Bool
+
+-- none of them, and all
+abbrev pub noneChosen : Chosen
+noneChosen p g = false
+
+abbrev pub allChosen : Chosen
+allChosen p g = true
+
+-- The licences and the trusted grants of the machine, L and R: a provisional licence is in L where it is chosen.
+abbrev pub licenceOf : Chosen → List Grant → Status → Grant → List Licence
+licenceOf C N Trusted g = []
+licenceOf C N (Issued p) g = record { issuer = p .0; what = g } ∷ []
+licenceOf C N (Provisional p) g = cond (C (p .0) (place g N)) (record { issuer = p .0; what = g } ∷ []) []
 
 abbrev pub trustedOf : Status → Grant → List Grant
 trustedOf Trusted g = g ∷ []
 trustedOf (Issued p) g = []
+trustedOf (Provisional p) g = []
 
-unfoldable pub licences : List Entry → List Licence
-licences [] = []
-licences (x ∷ E) = licenceOf (x .by) (x .what) ++ licences E
+unfoldable pub licences : Chosen → List Grant → List Entry → List Licence
+licences C N [] = []
+licences C N (x ∷ E) = licenceOf C N (x .by) (x .what) ++ licences C N E
 
 unfoldable pub trusts : List Entry → List Grant
 trusts [] = []
 trusts (x ∷ E) = trustedOf (x .by) (x .what) ++ trusts E
 
-abbrev pub licencesIn : State → List Licence
-licencesIn M = licences (M .entries)
+abbrev pub licencesIn : State → Chosen → List Licence
+licencesIn M C = licences C (M .N) (M .entries)
 
 abbrev pub trustedIn : State → List Grant
 trustedIn M = trusts (M .entries)
@@ -95,26 +109,26 @@ abbrev pub holds2 : (Said → List Said → Bool) → Condition → List Said �
 holds2 said [] S = true
 holds2 said (d ∷ ds) S = let later = holds2 said ds S in cond (said d S) later false
 
-module _ (M : State) where
+-- Figure 5: "for each license (p, g) ∈ L: if Query2(Perm(p, issue, g), L, R, E′) = true then R′ := R′ ∪ {g}". `query′` is Query2 at E′.
+unfoldable pub allowed : State → (ℕ → Bool) → List Licence → List Grant
+allowed M query′ [] = []
+allowed M query′ (l ∷ L) = cond (query′ (issueMark (l .issuer) (place (l .what) (M .N)))) (l .what ∷ allowed M query′ L) (allowed M query′ L)
+
+module _ (M : State) (C : Chosen) where
   -- Figure 6, for one Said: "if d = Said(p, e) and d ∈ S then return false; if d = Said(p, e) and d ∉ S then S′ = S ∪ {d}; R_p = ..;
   -- D := ..; if Holds2(d′, L, S′) = true for a condition d′ ∈ D then return true else return false".
   unfoldable pub said2 : (Said → List Said → Bool) → Said → List Said → Bool
   said2 said d S =
       let S′ = d ∷ S in
-      let D = conditions (M .N) (issuedBy (d .speaker) (licencesIn M)) (d .what) in
+      let D = conditions (M .N) (issuedBy (d .speaker) (licencesIn M C)) (d .what) in
       let held = some (λ d′. holds2 said d′ S′) D in
       cond (some (sameSaid d) S) false held
-
-  -- Figure 5: "for each license (p, g) ∈ L: if Query2(Perm(p, issue, g), L, R, E′) = true then R′ := R′ ∪ {g}". `query′` is Query2 at E′.
-  unfoldable pub allowed : (ℕ → Bool) → List Licence → List Grant
-  allowed query′ [] = []
-  allowed query′ (l ∷ L) = cond (query′ (issueMark (l .issuer) (place (l .what) (M .N)))) (l .what ∷ allowed query′ L) (allowed query′ L)
 
   -- Figure 5: "if e ∈ E then return ∅ else E′ := E ∪ {e}; R′ := R; for each license ..; D := ∅; for each grant ..; return D".
   unfoldable pub auth2 : (ℕ → List ℕ → Bool) → ℕ → List ℕ → List Condition
   auth2 query e E =
       let E′ = e ∷ E in
-      let R′ = trustedIn M ++ allowed (λ e′. query e′ E′) (licencesIn M) in
+      let R′ = trustedIn M ++ allowed M (λ e′. query e′ E′) (licencesIn M C) in
       let D = conditions (M .N) R′ e in
       cond (some (eqb e) E) [] D
 

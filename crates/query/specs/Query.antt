@@ -13,9 +13,9 @@ use Rattle.rows.specs.Written.{Grant}
 use Rattle.rows.specs.Numbering.{has}
 use Rattle.rows.specs.Form.{noGrant}
 use Rattle.rules.specs.Standing.{All, Some}
-use Rattle.book.specs.Machine.{State, stands}
-use Rattle.book.specs.Closed.{rowAt}
-use Rattle.query.specs.Figures.{Said, Condition, said2, holds2, query2}
+use Rattle.machine.specs.Machine.{State, stands}
+use Rattle.machine.specs.Closed.{rowAt}
+use Rattle.query.specs.Figures.{Chosen, Said, Condition, said2, holds2, query2}
 
 -- What the theorems ask of a state of the plain machine: at most 64 grants are numbered, each once, their rows are in form, and
 -- what stands has a number and, for a licence, one of the 16 as issuer. Every state that the machine reaches is so.
@@ -42,23 +42,23 @@ Single (a ∷ l) = (Some (λ b. a ≡ b) l → ⊥) × Single l
 
 -- Functions Query2 and, of one Said, Holds2 follow the figures: on every list that can come up on a branch they give what the figure
 -- gives where its calls are these functions themselves.
-pub record Follows (M : State) (query : ℕ → List ℕ → Bool) (said : Said → List Said → Bool) : Type 0 where
+pub record Follows (M : State) (C : Chosen) (query : ℕ → List ℕ → Bool) (said : Said → List Said → Bool) : Type 0 where
   -- figures 4 and 5
-  pub queried : (e : ℕ) (E : List ℕ) → InTruth e → All InTruth E → Single E → query e E ≡ query2 M query said e E
+  pub queried : (e : ℕ) (E : List ℕ) → InTruth e → All InTruth E → Single E → query e E ≡ query2 M C query said e E
   -- figure 6
-  pub held : (d : Said) (S : List Said) → InSaid d → All InSaid S → Single S → said d S ≡ said2 M said d S
+  pub held : (d : Said) (S : List Said) → InSaid d → All InSaid S → Single S → said d S ≡ said2 M C said d S
 
 -- The figures' recursion, on a budget: how many questions a branch may ask one below the other. A question out of budget is answered
 -- `spent`, and that this makes no difference is a theorem: a branch's list can only be lengthened by what is not on it, and so no
 -- more often than there are statements.
-module _ (M : State) (spent : Bool) where
+module _ (M : State) (C : Chosen) (spent : Bool) where
   unfoldable pub saidWithin : ℕ → Said → List Said → Bool
   saidWithin zero d S = spent
-  saidWithin (suc k) d S = said2 M (λ d′ S′. saidWithin k d′ S′) d S
+  saidWithin (suc k) d S = said2 M C (λ d′ S′. saidWithin k d′ S′) d S
 
   unfoldable pub queryWithin : ℕ → ℕ → List ℕ → Bool
   queryWithin zero e E = spent
-  queryWithin (suc k) e E = query2 M (λ e′ E′. queryWithin k e′ E′) (λ d S. saidWithin (suc sayings) d S) e E
+  queryWithin (suc k) e E = query2 M C (λ e′ E′. queryWithin k e′ E′) (λ d S. saidWithin (suc sayings) d S) e E
 
   -- Query2(.., L, R, ..) and, of one Said, Holds2(.., L, ..): on a budget of one more than there are statements.
   abbrev pub fullQuery : ℕ → List ℕ → Bool

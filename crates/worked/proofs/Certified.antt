@@ -4,7 +4,7 @@ use mathlib.Core.Path.{_≡_, refl, sym, subst, ap, _∙_}
 use mathlib.Core.Bool.{Bool, true, false, not, cond}
 use mathlib.Core.List.{List, [], _∷_}
 use mathlib.Core.Logic.{_⊎_, inl, inr, ⊎-elim}
-use Prim.Native.Nat.{ℕ, zero, suc, _+_, _<_}
+use Prim.Native.Nat.{ℕ, zero, suc, _<_}
 use native.Mathlib.Nat.{not-suc-le-zero, le-of-suc-le-suc}
 use native.Mathlib.Omega.{arith}
 use lib.Dec.{T, eqb, ltb, eqb→eq, eqb-refl, ltb→lt, T-not}
@@ -17,9 +17,10 @@ use Rattle.rules.proofs.Lists.{met-map}
 use Rattle.rules.proofs.Saturation.{in-set, in-set-cases, bits-set, same-marks}
 use Rattle.rules.proofs.Ground.{closed-ground}
 use Rattle.rules.proofs.Standing.{blank-length, blank-bits, blank-none}
-use Rattle.book.specs.Machine.{State}
-use Rattle.book.specs.Closed.{ClosedSet, Stands, Lacking}
+use Rattle.machine.specs.Machine.{State}
+use Rattle.machine.specs.Closed.{ClosedSet, Stands, Lacking}
 use Rattle.marks.specs.Counts.{Statements, truths, sayings, ones, marksOf as kindMarks}
+use Rattle.demands.proofs.Views.{View, firm, choiceOf}
 use Rattle.demands.proofs.Balance.{ones-none, ones-kinds}
 use Rattle.worked.specs.Worked.{MarksOf}
 use Rattle.worked.proofs.Listed.{rowsOf, flagsOf, closed-same}
@@ -259,38 +260,40 @@ kinds-marks rs (n ∷ ns) t =
         let f = ones-kinds (marksOf ns) in
         (omega arith, omega arith)
 
--- Where the rules of a state pass the test, the listed statements are those that stand.
-abbrev pub certified : State → List ℕ → Bool
-certified M ns = test (ground (rowsOf M) (flagsOf M)) ns
+-- Where the rules of a state pass the test, with the firm licences alone or with the provisional ones taken as firm, the listed
+-- statements are those that stand under that choice.
+abbrev pub certified : State → View → List ℕ → Bool
+certified M v ns = test (ground (rowsOf M) (flagsOf M v)) ns
 
-module _ (M : State) (ns : List ℕ) (t : T (certified M ns)) where
+module _ (M : State) (v : View) (ns : List ℕ) (passed : T (certified M v ns)) where
   abbrev rs : List Rule
-  rs = ground (rowsOf M) (flagsOf M)
+  rs = ground (rowsOf M) (flagsOf M v)
 
   order : T (orderb rs ns)
-  order = right (closedb rs ns) (orderb rs ns) t
+  order = right (closedb rs ns) (orderb rs ns) passed
 
-  closed : ClosedSet M (Listed ns)
-  closed = closed-same M (Listed ns) .0 (closed-ground (rowsOf M) (flagsOf M) (Listed ns) .1 (closed-of rs ns (left (closedb rs ns) (orderb rs ns) t)))
+  closed : ClosedSet M (choiceOf v) (Listed ns)
+  closed = closed-same M v (Listed ns) .0 (closed-ground (rowsOf M) (flagsOf M v) (Listed ns) .1 (closed-of rs ns (left (closedb rs ns) (orderb rs ns) passed)))
 
   -- a listed statement is in every closed set
-  pub present : (n : ℕ) → Listed ns n → Stands M n
-  present n h S c = order-of S rs ns (closed-ground (rowsOf M) (flagsOf M) S .0 (closed-same M S .1 c)) order n h
+  pub present : (n : ℕ) → Listed ns n → Stands M (choiceOf v) n
+  present n h S c = order-of S rs ns (closed-ground (rowsOf M) (flagsOf M v) S .0 (closed-same M v S .1 c)) order n h
 
   -- the listed statements are a closed set, which lacks the others
-  pub missing : (n : ℕ) → T (not (memb n ns)) → Lacking M n
+  pub missing : (n : ℕ) → T (not (memb n ns)) → Lacking M (choiceOf v) n
   missing n u = (Listed ns, closed, T-not (memb n ns) u)
 
-  -- so its marks are those of the listed statements
+-- With the firm licences alone, the marks of the state are those of the listed statements.
+module _ (M : State) (ns : List ℕ) (passed : T (certified M firm ns)) where
   marks-are : (m : List ℕ) → MarksOf M m → m ≡ marksOf ns
   marks-are m k =
       same-marks m (marksOf ns) (k .size ∙ sym (marks-length ns)) (k .bits) (marks-bits ns)
-      (λ n h. listed-marks rs ns order n (k .stand n .0 h (Listed ns) closed))
-      (λ n h. k .stand n .1 (present n (marks-listed ns n h)))
+      (λ n h. listed-marks (rs M firm ns passed) ns (order M firm ns passed) n (k .stand n .0 h (Listed ns) (closed M firm ns passed)))
+      (λ n h. k .stand n .1 (present M firm ns passed n (marks-listed ns n h)))
 
   pub counted : (m : List ℕ) → MarksOf M m → ones m ≡ length ns
-  counted m k = ap ones (marks-are m k) ∙ ones-marks rs ns order
+  counted m k = ap ones (marks-are m k) ∙ ones-marks (rs M firm ns passed) ns (order M firm ns passed)
 
   pub counted-kind : (k : Statements) (m : List ℕ) → MarksOf M m → ones (kindMarks k m) ≡ ofKind k ns
-  counted-kind truths m j = ap (λ (l : List ℕ). ones (kindMarks truths l)) (marks-are m j) ∙ kinds-marks rs ns order .0
-  counted-kind sayings m j = ap (λ (l : List ℕ). ones (kindMarks sayings l)) (marks-are m j) ∙ kinds-marks rs ns order .1
+  counted-kind truths m j = ap (λ (l : List ℕ). ones (kindMarks truths l)) (marks-are m j) ∙ kinds-marks (rs M firm ns passed) ns (order M firm ns passed) .0
+  counted-kind sayings m j = ap (λ (l : List ℕ). ones (kindMarks sayings l)) (marks-are m j) ∙ kinds-marks (rs M firm ns passed) ns (order M firm ns passed) .1

@@ -9,13 +9,14 @@ use Rattle.reader.specs.Records.{readEntry, readLicence, readQuery, readContent
 use Rattle.exact.specs.Writing.{writtenRecord}
 use Rattle.rules.specs.Rules.{resUnder, conclUnder, granted, condition}
 use Rattle.rules.specs.Standing.{needsOf, fired, at, atXY, atX, ofRow, ground}
-use Rattle.book.specs.Machine.{member, insert, delete, act, step}
+use Rattle.machine.specs.Machine.{member, insert, delete, act, step}
 use Rattle.book.specs.Chains.{runs}
 use Rattle.worked.specs.Worked.{P1, P2, P3, P4, P5, P6, P6-added, P7, P8, P9, P9-withdrawn, P10, turned, table}
+use Rattle.worked.specs.Worked.{chain, chain-firm, chain-withdrawn, chain-firm-withdrawn, two-paths, two-paths-firm, two-paths-first, two-paths-second, two-paths-none, another-path, waiting-circle, entered-twice}
 
 -- the table
 unfoldable pub listed : Unit {0}
-unfolding P1 P2 P3 P4 P5 P6 P6-added P7 P8 P9 P9-withdrawn P10 turned table
+unfolding P1 P2 P3 P4 P5 P6 P6-added P7 P8 P9 P9-withdrawn P10 turned chain chain-firm chain-withdrawn chain-firm-withdrawn two-paths two-paths-firm two-paths-first two-paths-second two-paths-none another-path waiting-circle entered-twice table
 listed = tt
 
 -- the plain machine, fed an example's records

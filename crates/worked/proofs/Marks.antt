@@ -10,7 +10,7 @@ use Rattle.reader.specs.Records.{Record}
 use Rattle.exact.specs.Writing.{writtenRecord}
 use Rattle.rules.specs.Standing.{Bits}
 use Rattle.rules.proofs.Saturation.{same-marks}
-use Rattle.book.specs.Machine.{State, start}
+use Rattle.machine.specs.Machine.{State, start}
 use Rattle.blocks.specs.Gains.{gains}
 use Rattle.marks.specs.Counts.{Statements, truths, sayings, ones, marksOf, changeOf, countsOf, changeIn}
 use Rattle.book.specs.Chains.{runs}
@@ -23,8 +23,8 @@ use Rattle.worked.specs.Worked.{machine, MarksOf}
 pub marks-some : (es : List Record) → (m : List ℕ) × MarksOf (machine es) m
 marks-some es =
     let K = chain-some (map writtenRecord es) in
-    let D = demand-3 (K .calls) (K .book) (K .marks) (K .chain) in
-    (K .marks, subst (λ (ss : List (List ℕ)). MarksOf (runs start ss) (K .marks)) (K .same) (record { size = D .form .marks; bits = D .form .markBits; stand = D .marks }))
+    let D = demand-3 (K .calls) (K .book) (K .marks) (K .second) (K .chain) in
+    (K .marks, subst (λ (ss : List (List ℕ)). MarksOf (runs start ss) (K .marks)) (K .same) (record { size = D .form .marks .count; bits = D .form .marks .bits; stand = D .marks }))
 
 -- A state has one list of marks.
 pub marks-one : (M : State) (l m : List ℕ) → MarksOf M l → MarksOf M m → l ≡ m

@@ -8,17 +8,21 @@ use lib.IntN.{ℤ, pos, negsuc, _-ℤ_}
 use lib.ListN.{length}
 use Rattle.reader.specs.Records.{Record}
 use Rattle.exact.specs.Writing.{writtenRecord}
-use Rattle.book.specs.Machine.{State, Verdict, changes, asks, refuses, start, step}
+use Rattle.machine.specs.Machine.{State, Verdict, changes, asks, refuses, start, step}
+use Rattle.machine.proofs.Choices.{permitted-none, not-permitted-all, open-both}
 use Rattle.marks.specs.Counts.{Statements, truths, sayings, countsOf, changeIn}
-use Rattle.worked.specs.Worked.{machine, Accepted, numberIn, Answer, permitted, not-permitted, marks, each, nets, MarksOf, Says, All, Example, Right, table}
+use Rattle.demands.proofs.Views.{firm, both as withAll}
+use Rattle.worked.specs.Worked.{machine, Accepted, numberIn, Answer, permitted, not-permitted, undecided, marks, each, nets, MarksOf, Says, All, Example, Right, table}
 use Rattle.worked.proofs.Computing.{listed, fed, rowed, grounded}
 use Rattle.worked.proofs.Certified.{both, left, right, memb, ofKind, certified, present, missing, counted, counted-kind}
 use Rattle.worked.proofs.Marks.{net-is}
 
--- The statements that stand after an example's records, and after the records that it is set against, if there are any: each
--- in front of those that it follows from.
+-- The statements that stand after an example's records with the firm licences alone; those that stand with all provisional ones
+-- taken as firm, where an answer needs them; and those that stood, with the firm licences alone, after the records that it is set
+-- against, if there are any: each in front of those that it follows from.
 record Certificate : Type 0 where
   now : List ℕ
+  most : List ℕ
   before : List ℕ
 
 -- The tests: the listed statements are those that stand, each record is accepted, and each answer is right of the list.
@@ -44,17 +48,18 @@ difference s k = pos (ofKind s (k .now)) -ℤ pos (ofKind s (k .before))
 
 abbrev answerb : List Record → Certificate → Answer → Bool
 answerb es k (permitted c) = memb (numberIn (machine es) c) (k .now)
-answerb es k (not-permitted c) = not (memb (numberIn (machine es) c) (k .now))
+answerb es k (not-permitted c) = both (certified (machine es) withAll (k .most)) (not (memb (numberIn (machine es) c) (k .most)))
+answerb es k (undecided c) = both (certified (machine es) withAll (k .most)) (both (memb (numberIn (machine es) c) (k .most)) (not (memb (numberIn (machine es) c) (k .now))))
 answerb es k (marks n) = eqb (length (k .now)) n
 answerb es k (each t s) = both (eqb (ofKind truths (k .now)) t) (eqb (ofKind sayings (k .now)) s)
-answerb es k (nets old y z) = both (certified (machine old) (k .before)) (both (sameb (difference truths k) y) (sameb (difference sayings k) z))
+answerb es k (nets old y z) = both (certified (machine old) firm (k .before)) (both (sameb (difference truths k) y) (sameb (difference sayings k) z))
 
 abbrev answersb : List Record → Certificate → List Answer → Bool
 answersb es k [] = true
 answersb es k (a ∷ l) = both (answerb es k a) (answersb es k l)
 
 abbrev lineb : Example → Certificate → Bool
-lineb e k = both (acceptedb start (e .entries)) (both (certified (machine (e .entries)) (k .now)) (answersb (e .entries) k (e .answers)))
+lineb e k = both (acceptedb start (e .entries)) (both (certified (machine (e .entries)) firm (k .now)) (answersb (e .entries) k (e .answers)))
 
 abbrev tests : List Example → List Certificate → Bool
 tests [] ks = true
@@ -81,8 +86,8 @@ same-int (pos a) (negsuc b) t = absurd t
 same-int (negsuc a) (pos b) t = absurd t
 same-int (negsuc a) (negsuc b) t = ap negsuc (eqb→eq a b t)
 
-module _ (es : List Record) (k : Certificate) (t : T (certified (machine es) (k .now))) where
-  of-kind : (s : Statements) (old : List Record) → T (certified (machine old) (k .before)) → (l m : List ℕ) → MarksOf (machine old) l → MarksOf (machine es) m →
+module _ (es : List Record) (k : Certificate) (t : T (certified (machine es) firm (k .now))) where
+  of-kind : (s : Statements) (old : List Record) → T (certified (machine old) firm (k .before)) → (l m : List ℕ) → MarksOf (machine old) l → MarksOf (machine es) m →
       changeIn s (countsOf l m) .net ≡ difference s k
   of-kind s old u l m i j =
       let p = counted-kind (machine es) (k .now) t s m j in
@@ -90,8 +95,19 @@ module _ (es : List Record) (k : Certificate) (t : T (certified (machine es) (k 
       net-is s (machine old) (machine es) l m i j ∙ (λ x. pos (p x) -ℤ pos (q x))
 
   holds : (a : Answer) → T (answerb es k a) → Says es a
-  holds (permitted c) u = present (machine es) (k .now) t (numberIn (machine es) c) u
-  holds (not-permitted c) u = missing (machine es) (k .now) t (numberIn (machine es) c) u
+  holds (permitted c) u = let n = numberIn (machine es) c in permitted-none (machine es) n .1 (present (machine es) firm (k .now) t n u)
+  holds (not-permitted c) u =
+      let n = numberIn (machine es) c in
+      let a = certified (machine es) withAll (k .most) in
+      let b = not (memb n (k .most)) in
+      not-permitted-all (machine es) n .1 (missing (machine es) withAll (k .most) (left a b u) n (right a b u))
+  holds (undecided c) u =
+      let n = numberIn (machine es) c in
+      let a = certified (machine es) withAll (k .most) in
+      let b = memb n (k .most) in
+      let d = not (memb n (k .now)) in
+      let v : T (both b d) = right a (both b d) u in
+      open-both (machine es) n .1 (present (machine es) withAll (k .most) (left a (both b d) u) n (left b d v), missing (machine es) firm (k .now) t n (right b d v))
   holds (marks n) u = record { count = λ m j. counted (machine es) (k .now) t m j ∙ eqb→eq (length (k .now)) n u }
   holds (each n s) u = record {
     count = λ m j. (
@@ -100,7 +116,7 @@ module _ (es : List Record) (k : Certificate) (t : T (certified (machine es) (k 
     );
   }
   holds (nets old y z) u =
-      let a = certified (machine old) (k .before) in
+      let a = certified (machine old) firm (k .before) in
       let b = sameb (difference truths k) y in
       let c = sameb (difference sayings k) z in
       let v : T (both b c) = right a (both b c) u in
@@ -118,7 +134,7 @@ module _ (es : List Record) (k : Certificate) (t : T (certified (machine es) (k 
 right-line : (e : Example) (k : Certificate) → T (lineb e k) → Right e
 right-line e k t =
     let a = acceptedb start (e .entries) in
-    let b = certified (machine (e .entries)) (k .now) in
+    let b = certified (machine (e .entries)) firm (k .now) in
     let c = answersb (e .entries) k (e .answers) in
     let u : T (both b c) = right a (both b c) t in
     record {
@@ -138,8 +154,17 @@ abbrev span : ℕ → ℕ → List ℕ
 span n zero = []
 span n (suc k) = n ∷ span (suc n) k
 
+-- where no answer needs others with all
 abbrev only : List ℕ → Certificate
-only ns = record { now = ns; before = [] }
+only ns = record { now = ns; most = ns; before = [] }
+
+-- with all, others
+abbrev upTo : List ℕ → List ℕ → Certificate
+upTo ns ms = record { now = ns; most = ms; before = [] }
+
+-- and where an example is set against other records
+abbrev against : List ℕ → List ℕ → Certificate
+against ns os = record { now = ns; most = ns; before = os }
 
 certificates : List Certificate
 certificates =
@@ -158,11 +183,28 @@ certificates =
     ∷ only (288 ∷ [])
     -- P9, before and after
     ∷ only (292 ∷ 4898 ∷ 2592 ∷ [])
-    ∷ record { now = []; before = 292 ∷ 4898 ∷ 2592 ∷ [] }
+    ∷ against [] (292 ∷ 4898 ∷ 2592 ∷ [])
     -- P10
     ∷ only (span 800 32)
     -- conditions in another order
     ∷ only (292 ∷ 7204 ∷ 306 ∷ 4898 ∷ 2592 ∷ [])
+    -- a chain with a provisional licence: with it countersigned, withdrawn, and countersigned and withdrawn
+    ∷ upTo (2592 ∷ []) (292 ∷ 7203 ∷ 4898 ∷ 2592 ∷ [])
+    ∷ against (292 ∷ 7203 ∷ 4898 ∷ 2592 ∷ []) (2592 ∷ [])
+    ∷ against (2592 ∷ []) (2592 ∷ [])
+    ∷ only (2592 ∷ [])
+    -- two paths: with the first firm and the second provisional, then withdrawn; with the second alone; with neither
+    ∷ upTo [] (831 ∷ 2592 ∷ 4896 ∷ [])
+    ∷ only (831 ∷ 2592 ∷ [])
+    ∷ only (831 ∷ 2592 ∷ [])
+    ∷ only (831 ∷ 4896 ∷ [])
+    ∷ only []
+    -- another path
+    ∷ only (290 ∷ 2592 ∷ [])
+    -- a circle of provisional licences
+    ∷ only []
+    -- firm either way
+    ∷ only (292 ∷ 4898 ∷ 2592 ∷ [])
     ∷ []
 
 computed : T (tests table certificates)

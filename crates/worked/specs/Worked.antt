@@ -5,18 +5,19 @@ use mathlib.Core.Path.{_≡_}
 use mathlib.Core.Logic.{_↔_}
 use mathlib.Core.List.{List, [], _∷_, _++_, map}
 use Prim.Native.Nat.{ℕ, _≤_}
-use lib.IntN.{ℤ, negsuc}
+use lib.IntN.{ℤ, pos, negsuc}
 use lib.ListN.{length, getD}
-use Rattle.sorts.specs.declared.Status.the-variants.{Trusted, Issued}
+use Rattle.sorts.specs.declared.Status.the-variants.{Trusted, Issued, Provisional}
 use Rattle.sorts.specs.Numbers.{numberOf, allMarks}
 use Rattle.rows.specs.Written.{Grant, Concl, grant, none, also, property, perm, issue, issueAny, run, export}
 use Rattle.rows.specs.Form.{conclOf}
 use Rattle.canon.specs.Canon.{canonConcl}
-use Rattle.reader.specs.Records.{Record, enter, remove}
+use Rattle.reader.specs.Records.{Record, enter, remove, confirm}
 use Rattle.exact.specs.Writing.{writtenRecord}
-use Rattle.book.specs.Machine.{State, changes, start, step}
+use Rattle.machine.specs.Machine.{State, changes, start, step}
+use Rattle.machine.specs.Closed.{Stands, none as noneChosen}
+use Rattle.machine.specs.Choices.{AlwaysStands, NeverStands, Undecided}
 use Rattle.book.specs.Chains.{runs}
-use Rattle.book.specs.Closed.{Stands, Lacking}
 use Rattle.marks.specs.Counts.{truths, sayings, ones, marksOf, countsOf}
 
 -- "Smart 0, Attractive 1, Good 2, Great 3, Trusted 4."
@@ -73,9 +74,17 @@ trust g = enter Trusted g
 abbrev pub licence : ℕ → Grant → Record
 licence q g = enter (Issued (record { 0 = q })) g
 
--- "Withdraw 0's": a licence of q is withdrawn.
+-- "Withdraw 0's": a licence of q is withdrawn. Document 02, 5: "WD removes either kind."
 abbrev pub withdraw : ℕ → Grant → Record
 withdraw q g = remove (Issued (record { 0 = q })) g
+
+-- Document 02, 5: "Record PL enters a provisional licence".
+abbrev pub provisional : ℕ → Grant → Record
+provisional q g = enter (Provisional (record { 0 = q })) g
+
+-- "CF .. makes a provisional one firm": q's provisional licence is countersigned.
+abbrev pub countersign : ℕ → Grant → Record
+countersign q g = confirm (record { 0 = q }) g
 
 -- "It is fed the bytes of each call's record, and nothing from the book or its answers": the plain machine after the records.
 abbrev pub machine : List Record → State
@@ -91,17 +100,18 @@ abbrev pub numberIn : State → Concl → ℕ
 numberIn M c = numberOf (conclOf (M .N) (canonConcl c))
 
 -- The marks of a state. "So there are 39,168 marks"; "A mark is a byte, 0 or 1"; "A statement .. has mark 1 exactly when it is in
--- every set closed under the three rules".
+-- every set closed under the three rules". Document 02, 5: "The existing marks and counts are those of the firm licences."
 pub record MarksOf (M : State) (m : List ℕ) : Type 1 where
   pub size : length m ≡ allMarks
   pub bits : (n : ℕ) → getD m n 0 ≤ 1
-  pub stand : (n : ℕ) → (getD m n 0 ≡ 1) ↔ Stands M n
+  pub stand : (n : ℕ) → (getD m n 0 ≡ 1) ↔ Stands M noneChosen n
 
--- What the documents say of an example: a conclusion is permitted, or not; so many marks; so many truths and so many sayings; the
--- nets of truths and of sayings, against the marks that stood after other records.
+-- What the documents say of an example: a conclusion is permitted, or not, or open (`undecided`, since `open` is a reserved word); so
+-- many marks; so many truths and so many sayings; the nets of truths and of sayings, against the marks that stood after other records.
 pub data Answer : Type 0 where
   permitted : Concl → Answer
   not-permitted : Concl → Answer
+  undecided : Concl → Answer
   marks : ℕ → Answer
   each : ℕ → ℕ → Answer
   nets : List Record → ℤ → ℤ → Answer
@@ -119,11 +129,12 @@ pub record MarkedEach (M : State) (t s : ℕ) : Type 1 where
 pub record Nets (L M : State) (y z : ℤ) : Type 1 where
   pub difference : (l m : List ℕ) → MarksOf L l → MarksOf M m → (countsOf l m .truths .net ≡ y) × (countsOf l m .sayings .net ≡ z)
 
--- An answer is right of the records: "permitted exactly when each closed set contains the conclusion, not permitted exactly when
--- some closed set lacks it".
+-- An answer is right of the records: "permitted when the conclusion stands under every choice of which provisional licences become
+-- firm, not permitted when it stands under none, and open otherwise".
 abbrev pub Says : List Record → Answer → Type 1
-Says es (permitted c) = Stands (machine es) (numberIn (machine es) c)
-Says es (not-permitted c) = Lacking (machine es) (numberIn (machine es) c)
+Says es (permitted c) = AlwaysStands (machine es) (numberIn (machine es) c)
+Says es (not-permitted c) = NeverStands (machine es) (numberIn (machine es) c)
+Says es (undecided c) = Undecided (machine es) (numberIn (machine es) c)
 Says es (marks n) = Marked (machine es) n
 Says es (each t s) = MarkedEach (machine es) t s
 Says es (nets before y z) = Nets (machine before) (machine es) y z
@@ -265,6 +276,141 @@ turned =
       answers = permitted (trusted 2) ∷ permitted (perm 2 (issue licensed)) ∷ permitted (perm 2 (issue allowed)) ∷ marks 5 ∷ [];
     }
 
+-- Document 02, 5: "Licences awaiting countersignature." A chain whose middle licence is provisional. 0: Smart(2). 1, provisionally:
+-- 0 said Smart(2) gives Good(2). 2: 1 said Good(2) gives Great(2). T: 2 said Great(2) gives Trusted(2). Trusted(2) open; 1 mark.
+unfoldable pub chain : Example
+chain =
+    record {
+      entries =
+          licence 0 (plain (smart 2))
+          ∷ provisional 1 (when 0 (smart 2) (good 2))
+          ∷ licence 2 (when 1 (good 2) (great 2))
+          ∷ trust (when 2 (great 2) (trusted 2))
+          ∷ [];
+      answers = undecided (trusted 2) ∷ marks 1 ∷ [];
+    }
+
+-- 1's is countersigned. Trusted(2) permitted; 4 marks, of which one is a truth: a net of 1 truth and of 2 sayings.
+unfoldable pub chain-firm : Example
+chain-firm =
+    record {
+      entries = chain .entries ++ (countersign 1 (when 0 (smart 2) (good 2)) ∷ []);
+      answers = permitted (trusted 2) ∷ marks 4 ∷ nets (chain .entries) (pos 1) (pos 2) ∷ [];
+    }
+
+-- 1's is withdrawn instead. Trusted(2) not permitted; 1 mark as before.
+unfoldable pub chain-withdrawn : Example
+chain-withdrawn =
+    record {
+      entries = chain .entries ++ (withdraw 1 (when 0 (smart 2) (good 2)) ∷ []);
+      answers = not-permitted (trusted 2) ∷ marks 1 ∷ nets (chain .entries) (pos 0) (pos 0) ∷ [];
+    }
+
+-- 1's is countersigned, and then withdrawn. Trusted(2) not permitted; 1 mark.
+unfoldable pub chain-firm-withdrawn : Example
+chain-firm-withdrawn =
+    record {
+      entries = chain-firm .entries ++ (withdraw 1 (when 0 (smart 2) (good 2)) ∷ []);
+      answers = not-permitted (trusted 2) ∷ marks 1 ∷ [];
+    }
+
+-- Two provisional licences on two paths to one right. 0, provisionally: Smart(2). 1, provisionally: Smart(2). T: 0 said Smart(2)
+-- gives Perm(5, run, 31). T: 1 said Smart(2) gives Perm(5, run, 31). The right is open: either licence would do, but neither is firm.
+-- 0 marks.
+unfoldable pub two-paths : Example
+two-paths =
+    record {
+      entries =
+          provisional 0 (plain (smart 2))
+          ∷ provisional 1 (plain (smart 2))
+          ∷ trust (when 0 (smart 2) (perm 5 (run 31)))
+          ∷ trust (when 1 (smart 2) (perm 5 (run 31)))
+          ∷ [];
+      answers = undecided (perm 5 (run 31)) ∷ marks 0 ∷ [];
+    }
+
+-- As soon as 0's is countersigned the right is permitted, with 1's still provisional; 2 marks.
+unfoldable pub two-paths-firm : Example
+two-paths-firm =
+    record {
+      entries = two-paths .entries ++ (countersign 0 (plain (smart 2)) ∷ []);
+      answers = permitted (perm 5 (run 31)) ∷ marks 2 ∷ [];
+    }
+
+-- It is permitted with 1's withdrawn; 2 marks.
+unfoldable pub two-paths-first : Example
+two-paths-first =
+    record {
+      entries = two-paths-firm .entries ++ (withdraw 1 (plain (smart 2)) ∷ []);
+      answers = permitted (perm 5 (run 31)) ∷ marks 2 ∷ [];
+    }
+
+-- So it is the other way round, with 1's countersigned and 0's withdrawn; 2 marks.
+unfoldable pub two-paths-second : Example
+two-paths-second =
+    record {
+      entries = two-paths .entries ++ (countersign 1 (plain (smart 2)) ∷ withdraw 0 (plain (smart 2)) ∷ []);
+      answers = permitted (perm 5 (run 31)) ∷ marks 2 ∷ [];
+    }
+
+-- With both withdrawn it is not permitted; 0 marks.
+unfoldable pub two-paths-none : Example
+two-paths-none =
+    record {
+      entries = two-paths .entries ++ (withdraw 0 (plain (smart 2)) ∷ withdraw 1 (plain (smart 2)) ∷ []);
+      answers = not-permitted (perm 5 (run 31)) ∷ marks 0 ∷ [];
+    }
+
+-- A provisional licence that adds nothing to what stands by another path. 0: Smart(2). 1, provisionally: Smart(2). T: 0 said Smart(2)
+-- gives Good(2). T: 1 said Smart(2) gives Good(2). Good(2) permitted; 2 marks.
+unfoldable pub another-path : Example
+another-path =
+    record {
+      entries =
+          licence 0 (plain (smart 2))
+          ∷ provisional 1 (plain (smart 2))
+          ∷ trust (when 0 (smart 2) (good 2))
+          ∷ trust (when 1 (smart 2) (good 2))
+          ∷ [];
+      answers = permitted (good 2) ∷ marks 2 ∷ [];
+    }
+
+-- A circle of provisional licences. 0, provisionally: 1 said Smart(2) gives Smart(2). 1, provisionally: 0 said Smart(2) gives
+-- Smart(2). T: 0 said Smart(2) gives Good(2). Good(2) not permitted, whichever become firm; 0 marks.
+unfoldable pub waiting-circle : Example
+waiting-circle =
+    record {
+      entries =
+          provisional 0 (when 1 (smart 2) (smart 2))
+          ∷ provisional 1 (when 0 (smart 2) (smart 2))
+          ∷ trust (when 0 (smart 2) (good 2))
+          ∷ [];
+      answers = not-permitted (good 2) ∷ marks 0 ∷ [];
+    }
+
+-- "PL of a firm licence leaves it firm; LI of a provisional one makes it firm." 0: Smart(2), and then provisionally. 1, provisionally:
+-- Good(2), and then firmly. T: 0 said Smart(2) and 1 said Good(2) give Trusted(2). Trusted(2) permitted; 3 marks.
+unfoldable pub entered-twice : Example
+entered-twice =
+    record {
+      entries =
+          licence 0 (plain (smart 2))
+          ∷ provisional 0 (plain (smart 2))
+          ∷ provisional 1 (plain (good 2))
+          ∷ licence 1 (plain (good 2))
+          ∷ trust (when2 0 (smart 2) 1 (good 2) (trusted 2))
+          ∷ [];
+      answers = permitted (trusted 2) ∷ marks 3 ∷ [];
+    }
+
 -- The table.
 unfoldable pub table : List Example
-table = P1 ∷ P2 ∷ P3 ∷ P4 ∷ P5 ∷ P6 ∷ P6-added ∷ P7 ∷ P8 ∷ P9 ∷ P9-withdrawn ∷ P10 ∷ turned ∷ []
+table =
+    P1 ∷ P2 ∷ P3 ∷ P4 ∷ P5 ∷ P6 ∷ P6-added ∷ P7 ∷ P8 ∷ P9 ∷ P9-withdrawn ∷ P10
+    ∷ turned
+    ∷ chain ∷ chain-firm ∷ chain-withdrawn ∷ chain-firm-withdrawn
+    ∷ two-paths ∷ two-paths-firm ∷ two-paths-first ∷ two-paths-second ∷ two-paths-none
+    ∷ another-path
+    ∷ waiting-circle
+    ∷ entered-twice
+    ∷ []
