@@ -26,6 +26,10 @@ pub permitted-joined : (s : List ℕ) (k : Kind) → lettersOf k ≡ lettersIn s
 unfolding said saidPieces
 permitted-joined s k e = simp (joined-cons, joined-none, e, append-assoc)
 
+pub open-joined : (s : List ℕ) (k : Kind) → lettersOf k ≡ lettersIn s → Says s answer.Open (says.Open k)
+unfolding said saidPieces
+open-joined s k e = simp (joined-cons, joined-none, e, append-assoc)
+
 pub not-permitted-joined : (s : List ℕ) (k : Kind) → lettersOf k ≡ lettersIn s → Says s answer.NotPermitted (says.NotPermitted k)
 unfolding said saidPieces
 not-permitted-joined s k e = simp (joined-cons, joined-none, e, append-assoc)

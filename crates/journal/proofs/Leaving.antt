@@ -14,32 +14,33 @@ use Rattle.journal.proofs.Calling.{calls-only}
 use Rattle.places.proofs.Places.{next-within, next-rest}
 
 -- What was read up to a place: with any calls of what is left it makes the calls of the journal.
-pub record ReadTo (s : List ℕ) (b : Book) (m : List ℕ) (at : ℕ) : Type 0 where
+pub record ReadTo (s : List ℕ) (b : Book) (m k : List ℕ) (at : ℕ) : Type 0 where
   pub within : at ≤ length s
-  pub more : (cs : List Call) (b′ : Book) (m′ : List ℕ) → Calls b m (drop at s) cs b′ m′ → Leaves s b′ m′
+  pub more : (cs : List Call) (b′ : Book) (m′ k′ : List ℕ) → Calls b m k (drop at s) cs b′ m′ k′ → Leaves s b′ m′ k′
 
-pub to-none : (s : List ℕ) (b : Book) (m : List ℕ) → b ≡ freshBook → m ≡ freshMarks → ReadTo s b m 0
-to-none s b m e f =
-    subst (λ (x : Book). ReadTo s x m 0) (sym e)
-    (subst (λ (x : List ℕ). ReadTo s freshBook x 0) (sym f)
-    (record { within = omega arith; more = λ cs b′ m′ x. record { calls = cs; made = x } }))
+pub to-none : (s : List ℕ) (b : Book) (m k : List ℕ) → b ≡ freshBook → m ≡ freshMarks → k ≡ freshMarks → ReadTo s b m k 0
+to-none s b m k e f g =
+    subst (λ (x : Book). ReadTo s x m k 0) (sym e)
+    (subst (λ (x : List ℕ). ReadTo s freshBook x k 0) (sym f)
+    (subst (λ (x : List ℕ). ReadTo s freshBook freshMarks x 0) (sym g)
+    (record { within = omega arith; more = λ cs b′ m′ k′ x. record { calls = cs; made = x } })))
 
-module _ (s : List ℕ) {b : Book} {m : List ℕ} (at : ℕ) (R : ReadTo s b m at) where
+module _ (s : List ℕ) {b : Book} {m k : List ℕ} (at : ℕ) (R : ReadTo s b m k at) where
   -- one call more
-  pub to-next : (r : Answered) (m′ : List ℕ) (to : ℕ) → at < length s → Called b m (drop at s) r m′ → to ≡ nextPlace (length s) at (r .used) → ReadTo s (r .book) m′ to
-  to-next r m′ to l C e =
+  pub to-next : (r : Answered) (m′ k′ : List ℕ) (to : ℕ) → at < length s → Called b m k (drop at s) r m′ k′ → to ≡ nextPlace (length s) at (r .used) → ReadTo s (r .book) m′ k′ to
+  to-next r m′ k′ to l C e =
       record {
         within = omega (arith, e, next-within s at (r .used));
-        more = λ cs b″ m″ x.
-            R .more (record { record′ = drop at s; before = b; marks = m; gave = r; left = m′ } ∷ cs) b″ m″
-            (then (drop at s) r m′ (omega (arith, length-drop at s)) C
-            (subst (λ (z : List ℕ). Calls (r .book) m′ z cs b″ m″) (ap (λ (k : ℕ). drop k s) e ∙ next-rest s at (r .used)) x));
+        more = λ cs b″ m″ k″ x.
+            R .more (record { record′ = drop at s; before = b; marks = m; second = k; gave = r; left = m′; leftSecond = k′ } ∷ cs) b″ m″ k″
+            (then (drop at s) r m′ k′ (omega (arith, length-drop at s)) C
+            (subst (λ (z : List ℕ). Calls (r .book) m′ k′ z cs b″ m″ k″) (ap (λ (i : ℕ). drop i s) e ∙ next-rest s at (r .used)) x));
       }
 
   -- at the end nothing is left
-  pub to-end : length s ≤ at → Leaves s b m
-  to-end l = R .more [] b m (subst (λ (z : List ℕ). Calls b m z [] b m) (sym (drop-of-length-le s {i = at} l)) ended)
+  pub to-end : length s ≤ at → Leaves s b m k
+  to-end l = R .more [] b m k (subst (λ (z : List ℕ). Calls b m k z [] b m k) (sym (drop-of-length-le s {i = at} l)) ended)
 
 -- A journal leaves one book and marks only.
-pub leaves-only : (s : List ℕ) (b c : Book) (m n : List ℕ) → Leaves s b m → Leaves s c n → (b ≡ c) × (m ≡ n)
-leaves-only s b c m n x y = let e = calls-only (x .made) (y .made) in (e .1, e .2)
+pub leaves-only : (s : List ℕ) (b c : Book) (m n k l : List ℕ) → Leaves s b m k → Leaves s c n l → (b ≡ c) × (m ≡ n) × (k ≡ l)
+leaves-only s b c m n k l x y = let e = calls-only (x .made) (y .made) in (e .1, e .2, e .3)

@@ -8,9 +8,9 @@ use Rattle.reader.specs.Records.{readMark}
 use Rattle.marks.specs.declared.Counts.{Counts}
 use Rattle.marks.specs.Counts.{ones}
 use Rattle.book.specs.declared.Answer.{Answer}
-use Rattle.book.specs.declared.Answer.the-variants.{Permitted, NotPermitted, Changed, Refused}
+use Rattle.book.specs.declared.Answer.the-variants.{Permitted, Open, NotPermitted, Changed, Refused}
 use Rattle.digits.specs.Decimals.{decimal, signed}
-use Rattle.pieces.specs.Words.{space, newline, permitted, notPermitted, refusedWord, endWord, marksWord}
+use Rattle.pieces.specs.Words.{space, newline, permitted, openWord, notPermitted, refusedWord, endWord, marksWord}
 use Rattle.lines.specs.declared.Said.{Said}
 use Rattle.lines.specs.Pieces.{saidPieces, joined}
 
@@ -23,10 +23,11 @@ abbrev pub nets : Counts → List ℕ
 nets c = space ++ signed (c .truths .net) ++ space ++ signed (c .sayings .net)
 
 -- "then its letters and signed net, or letters and the query's answer, or `refused` and the number": what the line of the
--- record that s starts with says of the answer.
+-- record that s starts with says of the answer. Document 02, 5: "`open` after QU".
 unfoldable pub said : List ℕ → Answer → List ℕ
 said s (Changed c) = lettersIn s ++ nets c
 said s Permitted = lettersIn s ++ permitted
+said s Open = lettersIn s ++ openWord
 said s NotPermitted = lettersIn s ++ notPermitted
 said s (Refused k) = refusedWord ++ decimal k
 
@@ -38,7 +39,8 @@ lineOf n s a = decimal n ++ space ++ said s a ++ newline
 unfoldable pub refusedLine : ℕ → List ℕ
 refusedLine k = refusedWord ++ decimal k ++ newline
 
--- "The last line has the count of record lines and of marks standing."
+-- "The last line has the count of record lines and of marks standing." Document 02, 5: "The existing marks and counts are those of the
+-- firm licences": m is the first buffer.
 unfoldable pub endOf : ℕ → List ℕ → List ℕ
 endOf n m = endWord ++ decimal n ++ marksWord ++ decimal (ones m) ++ newline
 
@@ -47,6 +49,7 @@ endOf n m = endWord ++ decimal n ++ marksWord ++ decimal (ones m) ++ newline
 abbrev pub Opened : List ℕ → Answer → Type 0
 Opened s (Changed c) = (j : ℕ) → readMark s ≡ refused j → ⊥
 Opened s Permitted = (j : ℕ) → readMark s ≡ refused j → ⊥
+Opened s Open = (j : ℕ) → readMark s ≡ refused j → ⊥
 Opened s NotPermitted = (j : ℕ) → readMark s ≡ refused j → ⊥
 Opened s (Refused k) = Unit {0}
 

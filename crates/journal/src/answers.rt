@@ -31,6 +31,7 @@ fn saying(s: &[u8], a: Answer) -> Said
 {
     match a {
         Answer::Permitted => Said::Permitted(kind_of(s)),
+        Answer::Open => Said::Open(kind_of(s)),
         Answer::NotPermitted => Said::NotPermitted(kind_of(s)),
         Answer::Changed(c) => Said::Changed(kind_of(s), c),
         Answer::Refused(k) => Said::Refused(k),

@@ -42,6 +42,10 @@ module _ (s : Said) (k : Kind) where
   unfolding saidPieces
   permitted-length e = rw e (omega arith)
 
+  pub open-length : s ≡ says.Open k → length (saidPieces s) ≡ 3
+  unfolding saidPieces
+  open-length e = rw e (omega arith)
+
   pub not-permitted-length : s ≡ says.NotPermitted k → length (saidPieces s) ≡ 3
   unfolding saidPieces
   not-permitted-length e = rw e (omega arith)
@@ -90,6 +94,7 @@ said-full : (s : Said) → Full (saidPieces s)
 unfolding saidPieces
 said-full (says.Changed k c) = letters-full k _ (cons-full _ _ _ (each-full _ _ (cons-full _ _ _ (each-full _ _ (cons-full _ _ [] none-full)))))
 said-full (says.Permitted k) = letters-full k _ (cons-full _ _ _ (cons-full _ _ [] none-full))
+said-full (says.Open k) = letters-full k _ (cons-full _ _ _ (cons-full _ _ [] none-full))
 said-full (says.NotPermitted k) = letters-full k _ (cons-full _ _ _ (cons-full _ _ [] none-full))
 said-full (says.Refused k) = cons-full _ _ _ (last-full k)
 

@@ -5,7 +5,7 @@ use mathlib.Core.List.{List, [], _∷_, _++_}
 use lib.ListN.{length}
 use Rattle.reader.specs.Records.{lettersOf}
 use Rattle.digits.specs.Decimals.{decimal}
-use Rattle.pieces.specs.Words.{space, newline, permitted, notPermitted, refusedWord, endWord, marksWord}
+use Rattle.pieces.specs.Words.{space, newline, permitted, openWord, notPermitted, refusedWord, endWord, marksWord}
 use Rattle.pieces.specs.Pieces.{each, lastNumber, netPieces}
 use Rattle.lines.specs.declared.Line.{Line}
 use Rattle.lines.specs.declared.Line.the-variants as line
@@ -16,6 +16,7 @@ use Rattle.lines.specs.declared.Said.the-variants as says
 unfoldable pub saidPieces : Said → List (List ℕ)
 saidPieces (says.Changed k c) = lettersOf k ∷ space ∷ netPieces c
 saidPieces (says.Permitted k) = lettersOf k ∷ permitted ∷ newline ∷ []
+saidPieces (says.Open k) = lettersOf k ∷ openWord ∷ newline ∷ []
 saidPieces (says.NotPermitted k) = lettersOf k ∷ notPermitted ∷ newline ∷ []
 saidPieces (says.Refused k) = refusedWord ∷ lastNumber k
 

@@ -18,6 +18,7 @@ ghost use Rattle.lines.specs.Pieces.{saidPieces, linePieces};
 pub enum Said {
     Changed(Kind, Counts),
     Permitted(Kind),
+    Open(Kind),
     NotPermitted(Kind),
     Refused(u8),
 }
@@ -75,6 +76,7 @@ fn saying(s: Said, i: usize) -> Piece
     match s {
         Said::Changed(k, c) => changed(k, c, i),
         Said::Permitted(k) => answered(k, Word::Permitted, i),
+        Said::Open(k) => answered(k, Word::Open, i),
         Said::NotPermitted(k) => answered(k, Word::NotPermitted, i),
         Said::Refused(k) => refused(k, i),
     }

@@ -13,6 +13,7 @@ fn of_said(s: Said) -> usize
     match s {
         Said::Changed(_, c) => pieces::sizes::of_nets(c) + 2,
         Said::Permitted(_) => 3,
+        Said::Open(_) => 3,
         Said::NotPermitted(_) => 3,
         Said::Refused(k) => digits::count(k as usize) + 2,
     }

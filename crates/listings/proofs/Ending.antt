@@ -10,7 +10,8 @@ use lib.Seq.{length-take-le}
 use lib.Dec.{eqb}
 use Rattle.rows.specs.Numbering.{number, numberConcl}
 use Rattle.ranges.specs.Bytes.{Outcome, got, refused}
-use Rattle.reader.specs.Records.{Record, enter, remove, query, readRecord, readCanonical}
+use Rattle.sorts.specs.declared.Status.the-variants.{Provisional}
+use Rattle.reader.specs.Records.{Record, enter, remove, confirm, query, readRecord, readCanonical}
 use Rattle.reader.specs.Requests.{fits}
 use Rattle.reader.specs.Records.{lettersOf}
 use Rattle.exact.specs.Writing.{kindOf, contentOf, writtenRecord}
@@ -19,9 +20,9 @@ use Rattle.exact.proofs.Exact.{record-exact}
 use Rattle.exact.proofs.CanonicalRecords.{canonical-got, canonical-refused}
 use Rattle.exact.proofs.Faults.{fault-range}
 use Rattle.book.specs.declared.Book.{Book}
-use Rattle.book.specs.declared.Answer.the-variants.{Permitted, NotPermitted}
+use Rattle.book.specs.declared.Answer.the-variants.{Permitted, Open, NotPermitted}
 use Rattle.book.specs.declared.Answered.{Answered}
-use Rattle.book.specs.Machine.{State, Step, Verdict, changes, asks, refuses, act, acted, step, stands}
+use Rattle.machine.specs.Machine.{State, Step, Verdict, changes, asks, refuses, act, acted, step, stands, there}
 use Rattle.book.specs.Books.{BookForm, Shows}
 use Rattle.book.specs.Calls.{answerOf, Called}
 use Rattle.book.specs.Chains.{Call}
@@ -59,7 +60,8 @@ pick false n x y p q = q
 act-used : (M : State) (r : Record) (n : ℕ) → (act M r n .used ≡ n) × (Ending (act M r n .says) → ⊥)
 unfolding act
 act-used M (enter by g) n = pick (fits (number g (M .N))) n _ _ (refl, λ x. x) (refl, late 6 (omega arith))
-act-used M (remove by g) n = pick (stands M by g) n _ _ (refl, λ x. x) (refl, late 7 (omega arith))
+act-used M (remove by g) n = pick (there by g (M .entries)) n _ _ (refl, λ x. x) (refl, late 7 (omega arith))
+act-used M (confirm p g) n = pick (stands M (Provisional p) g) n _ _ (refl, λ x. x) (refl, late 7 (omega arith))
 act-used M (query c) n = pick (fits (numberConcl c (M .N))) n _ _ (refl, λ x. x) (refl, late 6 (omega arith))
 
 acted-ends : (M : State) (s : List ℕ) (o : Outcome Record) → readCanonical s ≡ o → (acted M o .used ≡ 0) ↔ Ending (acted M o .says)
@@ -73,29 +75,30 @@ step-ends : (M : State) (s : List ℕ) → (step M s .used ≡ 0) ↔ Ending (st
 unfolding step
 step-ends M s = acted-ends M s (readCanonical s) refl
 
-query-ends : (t : Bool) → Ends (cond t Permitted NotPermitted) → ⊥
-query-ends true x = x
-query-ends false x = x
+query-ends : (t u : Bool) → Ends (cond t Permitted (cond u Open NotPermitted)) → ⊥
+query-ends true u x = x
+query-ends false true x = x
+query-ends false false x = x
 
-answer-ends : (v : Verdict) (m n : List ℕ) → Ending v ↔ Ends (answerOf v m n)
+answer-ends : (v : Verdict) (m k n : List ℕ) → Ending v ↔ Ends (answerOf v m k n)
 unfolding answerOf
-answer-ends changes m n = (λ x. x, λ x. x)
-answer-ends (asks c) m n = (λ x. absurd x, query-ends (eqb (getD m c 0) 1))
-answer-ends (refuses k) m n = (λ x. x, λ x. x)
+answer-ends changes m k n = (λ x. x, λ x. x)
+answer-ends (asks c) m k n = (λ x. absurd x, query-ends (eqb (getD m c 0) 1) (eqb (getD k c 0) 1))
+answer-ends (refuses j) m k n = (λ x. x, λ x. x)
 
 -- a call on a book in form that shows a state of the machine
-call-ends : (M : State) (b : Book) (m s : List ℕ) (r : Answered) (n : List ℕ) → BookForm b m → Shows b M → Called b m s r n → (r .used ≡ 0) ↔ Ends (r .answer)
-call-ends M b m s r n B S h =
+call-ends : (M : State) (b : Book) (m k s : List ℕ) (r : Answered) (n l : List ℕ) → BookForm b m k → Shows b M → Called b m k s r n l → (r .used ≡ 0) ↔ Ends (r .answer)
+call-ends M b m k s r n l B S h =
     let F = h .formed B M S in
     let i = step-ends M s in
-    let j = answer-ends (step M s .says) m n in
+    let j = answer-ends (step M s .says) m k n in
     (λ u. subst Ends (sym (F .answer)) (j .0 (i .0 (sym (F .used) ∙ u))), λ x. F .used ∙ i .1 (j .1 (subst Ends (F .answer) x)))
 
 -- THE ENDING: in the calls of a journal, from a book in form that shows a state of the machine, those that use no byte are
 -- those with the refusals 1 to 5
-pub all-end : {b b′ : Book} {m m′ s : List ℕ} {cs : List Call} (M : State) → BookForm b m → Shows b M → Calls b m s cs b′ m′ → AllEnd cs
+pub all-end : {b b′ : Book} {m m′ k k′ s : List ℕ} {cs : List Call} (M : State) → BookForm b m k → Shows b M → Calls b m k s cs b′ m′ k′ → AllEnd cs
 unfolding AllEnd
 all-end M B S ended = tt
-all-end {b} {b′} {m} {m′} M B S (then s r n l h x) =
-    let F = h .formed B M S in
-    (call-ends M b m s r n B S h, all-end (step M s .next) (F .form) (F .shows) x)
+all-end {b} {b′} {m} {m′} {k} M B S (then s r n l h C x) =
+    let F = C .formed B M S in
+    (call-ends M b m k s r n l B S C, all-end (step M s .next) (F .form) (F .shows) x)

@@ -6,7 +6,7 @@ use native.Mathlib.Omega.{arith}
 use lib.ListN.{length, drop, getD, length-drop, length-append, drop-of-length-le}
 use lib.Seq.{getD-append-seam}
 use Rattle.book.specs.declared.Book.{Book}
-use Rattle.book.specs.Machine.{State, start}
+use Rattle.machine.specs.Machine.{State, start}
 use Rattle.book.specs.Chains.{Call, freshBook, freshMarks}
 use Rattle.demands.proofs.Reached.{Reached, fresh-reached, reached-after}
 use Rattle.journal.specs.declared.Stepped.{Stepped}
@@ -20,35 +20,37 @@ use Rattle.listings.proofs.Listings.{calls-from, lines-count, line-at}
 
 -- What was read of a journal up to a place, where n lines were written: the calls so far, to which any calls of what is left may be
 -- added.
-pub record Read (s : List ℕ) (b : Book) (m : List ℕ) (at n : ℕ) : Type 0 where
+pub record Read (s : List ℕ) (b : Book) (m k : List ℕ) (at n : ℕ) : Type 0 where
   pub calls : List Call
   pub count : length calls ≡ n
   pub within : at ≤ length s
   pub few : n ≤ at
   pub state : State
-  pub reached : Reached b m state
-  pub more : (cs : List Call) (b′ : Book) (m′ : List ℕ) → Calls b m (drop at s) cs b′ m′ → Calls freshBook freshMarks s (calls ++ cs) b′ m′
+  pub reached : Reached b m k state
+  pub more : (cs : List Call) (b′ : Book) (m′ k′ : List ℕ) → Calls b m k (drop at s) cs b′ m′ k′ → Calls freshBook freshMarks freshMarks s (calls ++ cs) b′ m′ k′
 
-pub read-none : (s : List ℕ) (b : Book) (m : List ℕ) → b ≡ freshBook → m ≡ freshMarks → Read s b m 0 0
-read-none s b m e f =
-    subst (λ (x : Book). Read s x m 0 0) (sym e)
-    (subst (λ (x : List ℕ). Read s freshBook x 0 0) (sym f)
-    (record { calls = []; count = refl; within = omega arith; few = omega arith; state = start; reached = fresh-reached; more = λ cs b′ m′ x. x }))
+pub read-none : (s : List ℕ) (b : Book) (m k : List ℕ) → b ≡ freshBook → m ≡ freshMarks → k ≡ freshMarks → Read s b m k 0 0
+read-none s b m k e f g =
+    subst (λ (x : Book). Read s x m k 0 0) (sym e)
+    (subst (λ (x : List ℕ). Read s freshBook x k 0 0) (sym f)
+    (subst (λ (x : List ℕ). Read s freshBook freshMarks x 0 0) (sym g)
+    (record { calls = []; count = refl; within = omega arith; few = omega arith; state = start; reached = fresh-reached; more = λ cs b′ m′ k′ x. x })))
 
-module _ (s : List ℕ) {b : Book} {m : List ℕ} (at n : ℕ) (R : Read s b m at n) where
-  module _ (r : Stepped) (m′ : List ℕ) (l : at < length s) (S : Steps b m s at (n + 1) r m′) where
+module _ (s : List ℕ) {b : Book} {m k : List ℕ} (at n : ℕ) (R : Read s b m k at n) where
+  module _ (r : Stepped) (m′ k′ : List ℕ) (l : at < length s) (S : Steps b m k s at (n + 1) r m′ k′) where
     abbrev this : Call
-    this = record { record′ = drop at s; before = b; marks = m; gave = r .answered; left = m′ }
+    this = record { record′ = drop at s; before = b; marks = m; second = k; gave = r .answered; left = m′; leftSecond = k′ }
 
     -- any calls of what is left after this one
-    step-more : (cs : List Call) (b″ : Book) (m″ : List ℕ) → Calls (r .answered .book) m′ (drop (r .next) s) cs b″ m″ → Calls freshBook freshMarks s (R .calls ++ (this ∷ cs)) b″ m″
-    step-more cs b″ m″ x =
-        R .more (this ∷ cs) b″ m″
-        (then (drop at s) (r .answered) m′ (omega (arith, length-drop at s)) (S .call)
-        (subst (λ (z : List ℕ). Calls (r .answered .book) m′ z cs b″ m″) (ap (λ (k : ℕ). drop k s) (S .next) ∙ next-rest s at (r .answered .used)) x))
+    step-more : (cs : List Call) (b″ : Book) (m″ k″ : List ℕ) → Calls (r .answered .book) m′ k′ (drop (r .next) s) cs b″ m″ k″ →
+        Calls freshBook freshMarks freshMarks s (R .calls ++ (this ∷ cs)) b″ m″ k″
+    step-more cs b″ m″ k″ x =
+        R .more (this ∷ cs) b″ m″ k″
+        (then (drop at s) (r .answered) m′ k′ (omega (arith, length-drop at s)) (S .call)
+        (subst (λ (z : List ℕ). Calls (r .answered .book) m′ k′ z cs b″ m″ k″) (ap (λ (i : ℕ). drop i s) (S .next) ∙ next-rest s at (r .answered .used)) x))
 
     -- one step more
-    pub read-step : Read s (r .answered .book) m′ (r .next) (n + 1)
+    pub read-step : Read s (r .answered .book) m′ k′ (r .next) (n + 1)
     read-step =
         record {
           calls = R .calls ++ (this ∷ []);
@@ -57,8 +59,8 @@ module _ (s : List ℕ) {b : Book} {m : List ℕ} (at n : ℕ) (R : Read s b m a
           few = omega (arith, R .few, S .next, next-further s at (r .answered .used) l);
           state = _;
           reached = reached-after (R .reached) (S .call);
-          more = λ cs b″ m″ x.
-              subst (λ (z : List Call). Calls freshBook freshMarks s z b″ m″) (sym (append-assoc (R .calls) (this ∷ []) cs)) (step-more cs b″ m″ x);
+          more = λ cs b″ m″ k″ x.
+              subst (λ (z : List Call). Calls freshBook freshMarks freshMarks s z b″ m″ k″) (sym (append-assoc (R .calls) (this ∷ []) cs)) (step-more cs b″ m″ k″ x);
         }
 
     -- its line is the one after those before
@@ -68,22 +70,22 @@ module _ (s : List ℕ) {b : Book} {m : List ℕ} (at n : ℕ) (R : Read s b m a
         let cs = R .calls ++ (this ∷ K .calls) in
         record {
           lines = _;
-          listed = read cs (K .book) (K .marks) h (step-more (K .calls) (K .book) (K .marks) (K .made));
+          listed = read cs (K .book) (K .marks) (K .second) h (step-more (K .calls) (K .book) (K .marks) (K .second) (K .made));
           within = omega (arith, R .count, length-append (recordLines 1 cs) (endOf (length cs) (K .marks) ∷ []), lines-count 1 cs, length-append (R .calls) (this ∷ K .calls));
           holds =
               subst (Carries (r .line))
-              (sym (ap (λ (k : ℕ). getD (recordLines 1 cs ++ (endOf (length cs) (K .marks) ∷ [])) k []) (sym (R .count)) ∙
+              (sym (ap (λ (i : ℕ). getD (recordLines 1 cs ++ (endOf (length cs) (K .marks) ∷ [])) i []) (sym (R .count)) ∙
               line-at 1 (R .calls) this (K .calls) (endOf (length cs) (K .marks) ∷ []) ∙
-              ap (λ (k : ℕ). lineOf k (drop at s) (r .answered .answer)) (omega (arith, R .count)))) (S .line);
+              ap (λ (i : ℕ). lineOf i (drop at s) (r .answered .answer)) (omega (arith, R .count)))) (S .line);
         }
 
   module _ (l : length s ≤ at) (h : length s ≤ 65536) where
     -- at the end of the journal the lines are the listing
     listing : Listed s (recordLines 1 (R .calls) ++ (endOf (length (R .calls)) m ∷ []))
     listing =
-        read (R .calls) b m h
-        (subst (λ (z : List Call). Calls freshBook freshMarks s z b m) (append-nil (R .calls))
-        (R .more [] b m (subst (λ (z : List ℕ). Calls b m z [] b m) (sym (drop-of-length-le s {i = at} l)) ended)))
+        read (R .calls) b m k h
+        (subst (λ (z : List Call). Calls freshBook freshMarks freshMarks s z b m k) (append-nil (R .calls))
+        (R .more [] b m k (subst (λ (z : List ℕ). Calls b m k z [] b m k) (sym (drop-of-length-le s {i = at} l)) ended)))
 
     listing-count : length (recordLines 1 (R .calls) ++ (endOf (length (R .calls)) m ∷ [])) ≡ n + 1
     listing-count = omega (arith, length-append (recordLines 1 (R .calls)) (endOf (length (R .calls)) m ∷ []), lines-count 1 (R .calls), R .count)
@@ -97,12 +99,12 @@ module _ (s : List ℕ) {b : Book} {m : List ℕ} (at n : ℕ) (R : Read s b m a
           within = omega (arith, listing-count);
           holds =
               subst (Carries t)
-              (sym (ap (λ (k : ℕ). getD (recordLines 1 (R .calls) ++ (endOf (length (R .calls)) m ∷ [])) k []) (sym (lines-count 1 (R .calls) ∙ R .count)) ∙
-              getD-append-seam (recordLines 1 (R .calls)) (endOf (length (R .calls)) m) [] [] ∙ ap (λ (k : ℕ). endOf k m) (R .count))) e;
+              (sym (ap (λ (i : ℕ). getD (recordLines 1 (R .calls) ++ (endOf (length (R .calls)) m ∷ [])) i []) (sym (lines-count 1 (R .calls) ∙ R .count)) ∙
+              getD-append-seam (recordLines 1 (R .calls)) (endOf (length (R .calls)) m) [] [] ∙ ap (λ (i : ℕ). endOf i m) (R .count))) e;
         }
 
-    pub read-ran : (k : ℕ) → k ≡ n + 1 → Finished s k
-    read-ran k e = record { lines = _; listed = listing; count = listing-count ∙ sym e }
+    pub read-ran : (i : ℕ) → i ≡ n + 1 → Finished s i
+    read-ran i e = record { lines = _; listed = listing; count = listing-count ∙ sym e }
 
 -- a journal that is too long is refused whole
 pub over-follows : (s : List ℕ) (k : ℕ) (t : Line) → 65536 < length s → k ≡ 0 → Carries t (refusedLine 8) → Follows s k t

@@ -6,7 +6,7 @@ use mathlib.Core.List.{List, [], _∷_, _++_}
 use lib.ListN.{length, getD}
 use Rattle.book.specs.declared.Book.{Book}
 use Rattle.book.specs.declared.Answer.{Answer}
-use Rattle.book.specs.declared.Answer.the-variants.{Permitted, NotPermitted, Changed, Refused}
+use Rattle.book.specs.declared.Answer.the-variants.{Permitted, Open, NotPermitted, Changed, Refused}
 use Rattle.book.specs.Chains.{Call, freshBook, freshMarks}
 use Rattle.demands.specs.Demands.{Demand3}
 use Rattle.lines.specs.declared.Line.{Line}
@@ -17,6 +17,7 @@ use Rattle.journal.specs.Journals.{Calls}
 -- "Refusals 1 to 5 end the reading."
 abbrev pub Ends : Answer → Type 0
 Ends Permitted = ⊥
+Ends Open = ⊥
 Ends NotPermitted = ⊥
 Ends (Changed c) = ⊥
 Ends (Refused k) = (1 ≤ k) × (k ≤ 5)
@@ -32,10 +33,10 @@ recordLines n [] = []
 recordLines n (c ∷ cs) = lineOf n (c .record′) (c .gave .answer) ∷ recordLines (n + 1) cs
 
 -- THE LISTING of a journal: "Refusal 8 is the one line `refused 8`", "a journal over 65,536 bytes"; else the lines of its
--- records, from a fresh book, and the last line.
+-- records, from a fresh book, and the last line, which counts the marks of the first buffer.
 pub data Listed (s : List ℕ) : List (List ℕ) → Type 0 where
   over : 65536 < length s → Listed s (refusedLine 8 ∷ [])
-  read : (cs : List Call) (b : Book) (m : List ℕ) → length s ≤ 65536 → Calls freshBook freshMarks s cs b m →
+  read : (cs : List Call) (b : Book) (m k : List ℕ) → length s ≤ 65536 → Calls freshBook freshMarks freshMarks s cs b m k →
       Listed s (recordLines 1 cs ++ (endOf (length cs) m ∷ []))
 
 -- DEMANDED of the listing of a journal s that is not too long: it is the lines of its calls and the last line, and of these calls
@@ -44,9 +45,10 @@ pub record Told (s : List ℕ) (ls : List (List ℕ)) : Type 1 where
   pub calls : List Call
   pub book : Book
   pub marks : List ℕ
-  pub made : Calls freshBook freshMarks s calls book marks
+  pub second : List ℕ
+  pub made : Calls freshBook freshMarks freshMarks s calls book marks second
   pub lines : ls ≡ recordLines 1 calls ++ (endOf (length calls) marks ∷ [])
-  pub demand : Demand3 calls book marks
+  pub demand : Demand3 calls book marks second
   pub ends : AllEnd calls
 
 -- DEMANDED of a line that is written after k lines: its pieces, joined, are line k, counted from 0, of the listing of s. (A

@@ -21,7 +21,7 @@ use Rattle.exact.proofs.CanonicalRecords.{canonical-of}
 use Rattle.book.specs.declared.Book.{Book}
 use Rattle.book.specs.declared.Answer.the-variants.{Permitted}
 use Rattle.book.specs.declared.Answered.{Answered}
-use Rattle.book.specs.Machine.{State, Step, asks, act, acted, step}
+use Rattle.machine.specs.Machine.{State, Step, asks, act, acted, step}
 use Rattle.book.specs.Books.{BookForm, Shows}
 use Rattle.book.specs.Calls.{answerAt, answerOf, Called}
 use Rattle.demands.proofs.ClosedBook.{shown}
@@ -33,18 +33,18 @@ use Rattle.panel.specs.declared.PackRight.the-variants.{Run, Export}
 use Rattle.panel.specs.Panels.{asked, conclusionOf, queryFor, IsPermitted}
 
 -- a book in form shows no more grants than there is room for
-pub room : (b : Book) (m : List ℕ) (M : State) → BookForm b m → Shows b M → fits (M .N) ≡ true
-room b m M f sh = le-leb (length (M .N)) grants (omega (arith, shown b m M f sh .counted, f .table .count))
+pub room : (b : Book) (m k : List ℕ) (M : State) → BookForm b m k → Shows b M → fits (M .N) ≡ true
+room b m k M f sh = le-leb (length (M .N)) grants (omega (arith, shown b m k M f sh .counted, f .table .count))
 
 module _ (p : ℕ) (x : PackRight) (n : ℕ) where
-  module _ (l : p < speakers) (k : n < packs) where
+  module _ (l : p < speakers) (r : n < packs) where
     known : p < principals
     known = omega (arith, l)
 
     allowed : (y : PackRight) → AllowedRecord (query (asked p y n))
     unfolding AllowedRecord AllowedConcl depth
-    allowed Run = ((inl known, inl k), omega arith)
-    allowed Export = ((inl known, inl k), omega arith)
+    allowed Run = ((inl known, inl r), omega arith)
+    allowed Export = ((inl known, inl r), omega arith)
 
     written-back : readRecord (queryFor p x n) ≡ got (query (asked p x n)) (length (queryFor p x n))
     written-back = ap readRecord (sym (append-nil (queryFor p x n))) ∙ record-read (query (asked p x n)) [] (allowed x)
@@ -67,26 +67,26 @@ module _ (p : ℕ) (x : PackRight) (n : ℕ) where
         go Run u = rw e
         go Export u = rw e
 
-    module _ (b : Book) (m : List ℕ) (f : BookForm b m) where
-      -- every call of the query answers from the mark
-      pub answered : (a : Answered) (m′ : List ℕ) → Called b m (queryFor p x n) a m′ → a .answer ≡ answerAt m (numberOf (conclusionOf p x n))
+    module _ (b : Book) (m k : List ℕ) (f : BookForm b m k) where
+      -- every call of the query answers from the marks
+      pub answered : (a : Answered) (m′ k′ : List ℕ) → Called b m k (queryFor p x n) a m′ k′ → a .answer ≡ answerAt m k (numberOf (conclusionOf p x n))
       unfolding answerOf
-      answered a m′ C =
-          let s = shows-some b m f in
+      answered a m′ k′ C =
+          let s = shows-some b m k f in
           C .formed f (s .0) (s .1) .answer ∙
-          ap (λ (t : Step). answerOf (t .says) m m′) (step-asks (s .0) (room b m (s .0) f (s .1)))
+          ap (λ (t : Step). answerOf (t .says) m k m′) (step-asks (s .0) (room b m k (s .0) f (s .1)))
 
       -- so it is permitted exactly where that answer is
-      pub permitted-at : IsPermitted b m p x n ↔ (answerAt m (numberOf (conclusionOf p x n)) ≡ Permitted)
+      pub permitted-at : IsPermitted b m k p x n ↔ (answerAt m k (numberOf (conclusionOf p x n)) ≡ Permitted)
       permitted-at = (
-        λ h. let C = call-some b m (queryFor p x n) f in sym (answered _ _ C) ∙ h _ _ C,
-        λ e a m′ C. answered a m′ C ∙ e,
+        λ h. let C = call-some b m k (queryFor p x n) f in sym (answered _ _ _ C) ∙ h _ _ _ C,
+        λ e a m′ k′ C. answered a m′ k′ C ∙ e,
       )
 
   -- On a book in form the query has an answer,
-  pub asked-some : (b : Book) (m : List ℕ) → BookForm b m → (a : Answered) × (m′ : List ℕ) × Called b m (queryFor p x n) a m′
-  asked-some b m f = (_, _, call-some b m (queryFor p x n) f)
+  pub asked-some : (b : Book) (m k : List ℕ) → BookForm b m k → (a : Answered) × (m′ : List ℕ) × (k′ : List ℕ) × Called b m k (queryFor p x n) a m′ k′
+  asked-some b m k f = (_, _, _, call-some b m k (queryFor p x n) f)
 
   -- and, whatever the book, one only.
-  pub asked-only : (b : Book) (m : List ℕ) (a a′ : Answered) (m₁ m₂ : List ℕ) → Called b m (queryFor p x n) a m₁ → Called b m (queryFor p x n) a′ m₂ → a .answer ≡ a′ .answer
-  asked-only b m a a′ m₁ m₂ C D = ap (λ (r : Answered). r .answer) (no-choice b m (queryFor p x n) a a′ m₁ m₂ C D .0)
+  pub asked-only : (b : Book) (m k : List ℕ) (a a′ : Answered) (m₁ m₂ k₁ k₂ : List ℕ) → Called b m k (queryFor p x n) a m₁ k₁ → Called b m k (queryFor p x n) a′ m₂ k₂ → a .answer ≡ a′ .answer
+  asked-only b m k a a′ m₁ m₂ k₁ k₂ C D = ap (λ (r : Answered). r .answer) (no-choice b m k (queryFor p x n) a a′ m₁ m₂ k₁ k₂ C D .0)

@@ -11,7 +11,7 @@ use Rattle.sorts.specs.Decides.{Decides}
 use Rattle.sorts.specs.Numbers.{numberOf, speakers}
 use Rattle.book.specs.declared.Book.{Book}
 use Rattle.book.specs.declared.Answer.{Answer}
-use Rattle.book.specs.declared.Answer.the-variants.{Permitted, NotPermitted, Changed, Refused}
+use Rattle.book.specs.declared.Answer.the-variants.{Permitted, Open, NotPermitted, Changed, Refused}
 use Rattle.book.specs.Books.{BookForm}
 use Rattle.book.specs.Calls.{answerAt}
 use Rattle.panel.specs.declared.PackRight.{PackRight}
@@ -26,18 +26,19 @@ use Rattle.panel.proofs.Asked.{permitted-at}
 
 one-permitted : (a : Answer) → oneFor a ≡ 1 → a ≡ Permitted
 one-permitted Permitted e = refl
+one-permitted Open e = absurd (omega arith)
 one-permitted NotPermitted e = absurd (omega arith)
 one-permitted (Changed c) e = absurd (omega arith)
 one-permitted (Refused k) e = absurd (omega arith)
 
-module _ (b : Book) (m : List ℕ) (p : ℕ) where
+module _ (b : Book) (m k : List ℕ) (p : ℕ) where
   -- a word made from the answers shows what is permitted
-  packs-shown : BookForm b m → p < speakers → (x : PackRight) (w : ℕ) → WordOf m p x w → Packs b m p x w
+  packs-shown : BookForm b m k → p < speakers → (x : PackRight) (w : ℕ) → WordOf m k p x w → Packs b m k p x w
   packs-shown f l x w W =
       record {
-        bits = λ n k. let q = permitted-at p x n l k b m f in (
-          λ e. q .1 (one-permitted (answerAt m (numberOf (conclusionOf p x n))) (sym (word-bit m p x w W n k) ∙ e)),
-          λ h. word-bit m p x w W n k ∙ ap oneFor (q .0 h),
+        bits = λ n r. let q = permitted-at p x n l r b m k f in (
+          λ e. q .1 (one-permitted (answerAt m k (numberOf (conclusionOf p x n))) (sym (word-bit m k p x w W n r) ∙ e)),
+          λ h. word-bit m k p x w W n r ∙ ap oneFor (q .0 h),
         );
         size = W .size;
       }
@@ -49,7 +50,7 @@ module _ (b : Book) (m : List ℕ) (p : ℕ) where
   said-below l = rw (lt-leb speakers p l)
 
   -- it is shown on a book in form, to one of the principals
-  pub shown-form : (form : Bool) → Decides form (BookForm b m) → saidOf form p ≡ said.Shown → BookForm b m × (p < speakers)
+  pub shown-form : (form : Bool) → Decides form (BookForm b m k) → saidOf form p ≡ said.Shown → BookForm b m k × (p < speakers)
   shown-form false d e = let z : _≡_ {A = ℕ} 9 0 = ap numberSaid e in absurd (omega arith)
   shown-form true f e = (f, go (decLt p speakers))
     where
@@ -57,27 +58,27 @@ module _ (b : Book) (m : List ℕ) (p : ℕ) where
       go (yes l) = l
       go (no l) = let z : _≡_ {A = ℕ} 3 0 = ap numberSaid (sym (said-above (omega arith)) ∙ e) in absurd (omega arith)
 
-  pub panel-shown : (form : Bool) → Decides form (BookForm b m) → saidOf form p ≡ said.Shown → (w v : ℕ) → WordOf m p Run w → WordOf m p Export v →
-      PanelOf b m p (record { said = said.Shown; run = w; export = v })
+  pub panel-shown : (form : Bool) → Decides form (BookForm b m k) → saidOf form p ≡ said.Shown → (w v : ℕ) → WordOf m k p Run w → WordOf m k p Export v →
+      PanelOf b m k p (record { said = said.Shown; run = w; export = v })
   panel-shown form d e w v W X =
       let h = shown-form form d e in
       let l = h .1 in
       record {
         decided = inl (h .0);
         unformed = λ g. absurd (g (h .0));
-        above = λ f k. absurd (omega arith);
-        shown = λ f k. (refl, packs-shown f k Run w W, packs-shown f k Export v X);
+        above = λ f r. absurd (omega arith);
+        shown = λ f r. (refl, packs-shown f r Run w W, packs-shown f r Export v X);
       }
 
-  pub panel-refused : (form : Bool) → Decides form (BookForm b m) → (k : ℕ) → saidOf form p ≡ said.Refused k → (r : Panel) → r ≡ refusedWith k → PanelOf b m p r
-  panel-refused false d k e r q =
+  pub panel-refused : (form : Bool) → Decides form (BookForm b m k) → (j : ℕ) → saidOf form p ≡ said.Refused j → (r : Panel) → r ≡ refusedWith j → PanelOf b m k p r
+  panel-refused false d j e r q =
       record {
         decided = inr d;
         unformed = λ g. q ∙ ap refusedWith (sym (ap numberSaid e));
         above = λ f l. absurd (d f);
         shown = λ f l. absurd (d f);
       }
-  panel-refused true f k e r q =
+  panel-refused true f j e r q =
       record {
         decided = inl f;
         unformed = λ g. absurd (g f);
@@ -86,7 +87,7 @@ module _ (b : Book) (m : List ℕ) (p : ℕ) where
       }
     where
       isShown : Said → ℕ
-      isShown (said.Refused j) = 0
+      isShown (said.Refused i) = 0
       isShown said.Shown = 1
 
       differ : _≡_ {A = ℕ} 0 1 → ⊥

@@ -33,27 +33,27 @@ same-bits (suc k) w v l h e =
     halves w v (e 0 (zero-lt-suc k))
     (same-bits k (w / 2) (v / 2) (half-lt k w l) (half-lt k v h) (λ n u. half-bit w n ∙ e (suc n) (omega arith) ∙ sym (half-bit v n)))
 
-module _ (b : Book) (m : List ℕ) (p : ℕ) where
-  packs-only : (x : PackRight) (w v : ℕ) → Packs b m p x w → Packs b m p x v → w ≡ v
-  packs-only x w v P Q = same-bits packs w v (P .size) (Q .size) (λ n k. go n k (ℕ-discrete (bit w n) 1) (ℕ-discrete (bit v n) 1))
+module _ (b : Book) (m k : List ℕ) (p : ℕ) where
+  packs-only : (x : PackRight) (w v : ℕ) → Packs b m k p x w → Packs b m k p x v → w ≡ v
+  packs-only x w v P Q = same-bits packs w v (P .size) (Q .size) (λ n r. go n r (ℕ-discrete (bit w n) 1) (ℕ-discrete (bit v n) 1))
     where
       go : (n : ℕ) → n < packs → Dec (bit w n ≡ 1) → Dec (bit v n ≡ 1) → bit w n ≡ bit v n
-      go n k (yes e) (yes f) = e ∙ sym f
-      go n k (yes e) (no d) = absurd (d (Q .bits n k .1 (P .bits n k .0 e)))
-      go n k (no d) (yes f) = absurd (d (P .bits n k .1 (Q .bits n k .0 f)))
-      go n k (no d) (no c) = omega (arith, bit-small w n, bit-small v n)
+      go n r (yes e) (yes f) = e ∙ sym f
+      go n r (yes e) (no d) = absurd (d (Q .bits n r .1 (P .bits n r .0 e)))
+      go n r (no d) (yes f) = absurd (d (P .bits n r .1 (Q .bits n r .0 f)))
+      go n r (no d) (no c) = omega (arith, bit-small w n, bit-small v n)
 
   -- Two panels of one book, marks and principal are the same.
-  pub panel-only : (r q : Panel) → PanelOf b m p r → PanelOf b m p q → r ≡ q
+  pub panel-only : (r q : Panel) → PanelOf b m k p r → PanelOf b m k p q → r ≡ q
   panel-only r q P Q = by (P .decided)
     where
-      formed : BookForm b m → Dec (p < speakers) → r ≡ q
+      formed : BookForm b m k → Dec (p < speakers) → r ≡ q
       formed f (yes l) =
           let x = P .shown f l in
           let y = Q .shown f l in
           λ i. record { said = (x .0 ∙ sym (y .0)) i; run = packs-only _ (r .run) (q .run) (x .1) (y .1) i; export = packs-only _ (r .export) (q .export) (x .2) (y .2) i }
       formed f (no l) = P .above f (omega arith) ∙ sym (Q .above f (omega arith))
 
-      by : BookForm b m ⊎ (BookForm b m → ⊥) → r ≡ q
+      by : BookForm b m k ⊎ (BookForm b m k → ⊥) → r ≡ q
       by (inl f) = formed f (decLt p speakers)
       by (inr d) = P .unformed d ∙ sym (Q .unformed d)

@@ -13,8 +13,9 @@ use Rattle.exact.specs.Writing.{writtenRecord}
 use Rattle.book.specs.declared.Book.{Book}
 use Rattle.book.specs.declared.Answer.the-variants.{Permitted}
 use Rattle.book.specs.declared.Answered.{Answered}
-use Rattle.book.specs.Machine.{State}
-use Rattle.book.specs.Closed.{Stands, Lacking}
+use Rattle.machine.specs.Machine.{State}
+use Rattle.machine.specs.Closed.{Choice, Lacking}
+use Rattle.machine.specs.Choices.{AlwaysStands}
 use Rattle.book.specs.Books.{BookForm}
 use Rattle.book.specs.Calls.{Called}
 use Rattle.panel.specs.declared.PackRight.{PackRight}
@@ -38,16 +39,16 @@ queryFor p x n = writtenRecord (query (asked p x n))
 
 -- "is permitted": whatever answer the promise of a call allows to that query, on that book, is permitted. (It allows one answer,
 -- and one only: theorems `asked-some` and `asked-only`.)
-abbrev pub IsPermitted : Book → List ℕ → ℕ → PackRight → ℕ → Type 0
-IsPermitted b m p x n = (a : Answered) (m′ : List ℕ) → Called b m (queryFor p x n) a m′ → a .answer ≡ Permitted
+abbrev pub IsPermitted : Book → List ℕ → List ℕ → ℕ → PackRight → ℕ → Type 0
+IsPermitted b m k p x n = (a : Answered) (m′ k′ : List ℕ) → Called b m k (queryFor p x n) a m′ k′ → a .answer ≡ Permitted
 
 -- Bit n of a word, counted from the lowest.
 unfoldable pub bit : ℕ → ℕ → ℕ
 bit w n = w / 2 ^ n % 2
 
 -- A "32-bit" word "where bit n is 1 exactly when run, or export, of pack n is permitted": it has a bit for each pack and no other.
-pub record Packs (b : Book) (m : List ℕ) (p : ℕ) (x : PackRight) (w : ℕ) : Type 0 where
-  pub bits : (n : ℕ) → n < packs → (bit w n ≡ 1) ↔ IsPermitted b m p x n
+pub record Packs (b : Book) (m k : List ℕ) (p : ℕ) (x : PackRight) (w : ℕ) : Type 0 where
+  pub bits : (n : ℕ) → n < packs → (bit w n ≡ 1) ↔ IsPermitted b m k p x n
   pub size : w < 2 ^ packs
 
 -- The number of what is said: that of the refusal, 0 where the panel is shown.
@@ -61,14 +62,20 @@ refusedWith k = record { said = Refused k; run = 0; export = 0 }
 
 -- THE PROMISE of the panel, whatever book, marks and principal: "For a principal it returns two 32-bit words"; "A principal above 15
 -- meets refusal 3, checked after 9".
-pub record PanelOf (b : Book) (m : List ℕ) (p : ℕ) (r : Panel) : Type 0 where
-  pub decided : BookForm b m ⊎ (BookForm b m → ⊥)
-  pub unformed : (BookForm b m → ⊥) → r ≡ refusedWith 9
-  pub above : BookForm b m → speakers ≤ p → r ≡ refusedWith 3
-  pub shown : BookForm b m → p < speakers → (r .said ≡ Shown) × Packs b m p Run (r .run) × Packs b m p Export (r .export)
+pub record PanelOf (b : Book) (m k : List ℕ) (p : ℕ) (r : Panel) : Type 0 where
+  pub decided : BookForm b m k ⊎ (BookForm b m k → ⊥)
+  pub unformed : (BookForm b m k → ⊥) → r ≡ refusedWith 9
+  pub above : BookForm b m k → speakers ≤ p → r ≡ refusedWith 3
+  pub shown : BookForm b m k → p < speakers → (r .said ≡ Shown) × Packs b m k p Run (r .run) × Packs b m k p Export (r .export)
+
+-- Under some choice of which provisional licences become firm a closed set lacks the conclusion: it is open, or not permitted.
+pub record Lacks (M : State) (n : ℕ) : Type 1 where
+  pub choice : Choice
+  pub lacks : Lacking M choice n
 
 -- DEMANDED of a word of the panel, where the book was reached from a fresh one by calls and the machine is in the state M: bit n is 1
--- exactly when each closed set contains the conclusion, and 0 exactly when some closed set lacks it. (Theorem `panel-reached`.)
+-- exactly when under every choice each closed set contains the conclusion, and 0 exactly when under some choice some closed set lacks
+-- it. (Theorem `panel-reached`.)
 pub record Told (M : State) (p : ℕ) (x : PackRight) (w : ℕ) : Type 1 where
-  pub one : (n : ℕ) → n < packs → (bit w n ≡ 1) ↔ Stands M (numberOf (conclusionOf p x n))
-  pub zero : (n : ℕ) → n < packs → (bit w n ≡ 0) ↔ Lacking M (numberOf (conclusionOf p x n))
+  pub one : (n : ℕ) → n < packs → (bit w n ≡ 1) ↔ AlwaysStands M (numberOf (conclusionOf p x n))
+  pub zero : (n : ℕ) → n < packs → (bit w n ≡ 0) ↔ Lacks M (numberOf (conclusionOf p x n))

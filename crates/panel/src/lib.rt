@@ -27,7 +27,7 @@ pub enum Said {
     Refused(u8),
 }
 
-// Bit n of a word is 1 where run, or export, of pack n is permitted.
+// Bit n of a word is 1 where run, or export, of pack n is permitted. It is 0 where that is open.
 pub struct Panel {
     pub said: Said,
     pub run: u32,
@@ -46,13 +46,14 @@ fn conclusion(p: u8, x: PackRight, n: u8) -> Concl
 }
 
 // 1 where a closed conclusion is permitted, else 0.
-fn one(c: Concl, marks: &[u8]) -> u32
-    requires { ⌜ numberOf c < length (now marks) ⌝ }
-    ensures { λ r. ⌜ r ≡ oneFor (answerAt (now (marks .entry)) (numberOf c)) ⌝ }
+fn one(c: Concl, marks: &[u8], second: &[u8]) -> u32
+    requires { ⌜ (numberOf c < length (now marks)) × (numberOf c < length (now second)) ⌝ }
+    ensures { λ r. ⌜ r ≡ oneFor (answerAt (now (marks .entry)) (now (second .entry)) (numberOf c)) ⌝ }
 {
-    let a = book::answer_for(c, marks);
+    let a = book::answer_for(c, marks, second);
     match a {
         Answer::Permitted => 1,
+        Answer::Open => 0,
         Answer::NotPermitted => 0,
         Answer::Changed(_) => 0,
         Answer::Refused(_) => 0,
@@ -60,15 +61,15 @@ fn one(c: Concl, marks: &[u8]) -> u32
 }
 
 // The word of one right: from the last pack to the first, twice what was there and one bit more.
-fn word(p: u8, x: PackRight, marks: &[u8]) -> u32
-    requires { ⌜ (p < speakers) × (length (now marks) ≡ allMarks) ⌝ }
-    ensures { λ w. ⌜ WordOf (now (marks .entry)) p x w ⌝ }
+fn word(p: u8, x: PackRight, marks: &[u8], second: &[u8]) -> u32
+    requires { ⌜ (p < speakers) × (length (now marks) ≡ allMarks) × (length (now second) ≡ allMarks) ⌝ }
+    ensures { λ w. ⌜ WordOf (now (marks .entry)) (now (second .entry)) p x w ⌝ }
 {
     let mut w: u32 = 0;
     let mut n = Pack::COUNT;
     while n > 0 {
         n -= 1;
-        w = 2 * w + one(conclusion(p, x, n), marks);
+        w = 2 * w + one(conclusion(p, x, n), marks, second);
     }
     w
 }
@@ -98,16 +99,16 @@ fn refused(k: u8) -> Panel
 }
 
 // The panel of a principal over a lent book.
-pub fn show(b: Book, marks: &[u8], p: u8) -> Panel
-    ensures { λ r. ⌜ PanelOf b (now (marks .entry)) p r ⌝ }
+pub fn show(b: Book, marks: &[u8], second: &[u8], p: u8) -> Panel
+    ensures { λ r. ⌜ PanelOf b (now (marks .entry)) (now (second .entry)) p r ⌝ }
 {
-    let said = verdict(book_form::in_form(b, marks), p);
+    let said = verdict(book_form::in_form(b, marks, second), p);
     match said {
         Said::Refused(k) => refused(k),
         Said::Shown => Panel {
             said: Said::Shown,
-            run: word(p, PackRight::Run, marks),
-            export: word(p, PackRight::Export, marks),
+            run: word(p, PackRight::Run, marks, second),
+            export: word(p, PackRight::Export, marks, second),
         },
     }
 }

@@ -5,7 +5,7 @@ use mathlib.Core.List.{List}
 use native.Mathlib.Omega.{arith}
 use Rattle.sorts.specs.Numbers.{speakers}
 use Rattle.book.specs.declared.Book.{Book}
-use Rattle.book.specs.Machine.{start}
+use Rattle.machine.specs.Machine.{start}
 use Rattle.book.specs.Chains.{records, runs}
 use Rattle.journal.specs.Journals.{Leaves}
 use Rattle.journal.proofs.Calling.{calls-chain}
@@ -18,16 +18,17 @@ use Rattle.panel.proofs.Unique.{panel-only}
 use Rattle.panel_boundary.specs.Crossing.{JournalPanel, over, read}
 
 -- ON THE BOOK THAT A JOURNAL LEAVES both words tell of the closed sets.
-pub journal-told : (s : List ℕ) (b : Book) (m : List ℕ) (L : Leaves s b m) (p : ℕ) → p < speakers → (r : Panel) → PanelOf b m p r →
+pub journal-told : (s : List ℕ) (b : Book) (m k : List ℕ) (L : Leaves s b m k) (p : ℕ) → p < speakers → (r : Panel) → PanelOf b m k p r →
     Told (runs start (records (L .calls))) p Run (r .run) × Told (runs start (records (L .calls))) p Export (r .export)
-journal-told s b m L p l r P = panel-reached (L .calls) b m (calls-chain (L .made)) p l r P
+journal-told s b m k L p l r P = panel-reached (L .calls) b m k (calls-chain (L .made)) p l r P
 
 -- A journal has one panel only for a principal.
 pub journal-only : (s : List ℕ) (p : ℕ) (r q : Panel) → JournalPanel s p r → JournalPanel s p q → r ≡ q
 journal-only s p r q (over l) (over h) = refl
-journal-only s p r q (over l) (read b m x h L P) = absurd (omega arith)
-journal-only s p r q (read b m x l L P) (over h) = absurd (omega arith)
-journal-only s p r q (read b m x l L P) (read c n y h K Q) =
-    let e = leaves-only s b c m n L K in
-    panel-only b m p x y P
-    (subst (λ (a : Book). PanelOf a m p y) (sym (e .0)) (subst (λ (z : List ℕ). PanelOf c z p y) (sym (e .1)) Q))
+journal-only s p r q (over l) (read b m k x h L P) = absurd (omega arith)
+journal-only s p r q (read b m k x l L P) (over h) = absurd (omega arith)
+journal-only s p r q (read b m k x l L P) (read c n j y h K Q) =
+    let e = leaves-only s b c m n k j L K in
+    panel-only b m k p x y P
+    (subst (λ (a : Book). PanelOf a m k p y) (sym (e .0))
+    (subst (λ (z : List ℕ). PanelOf c z k p y) (sym (e .1)) (subst (λ (z : List ℕ). PanelOf c n z p y) (sym (e .2)) Q)))

@@ -12,7 +12,7 @@ use Rattle.panel.specs.Panels.{numberSaid, refusedWith, PanelOf}
 -- "a journal over 65,536 bytes".
 pub data JournalPanel (s : List ℕ) (p : ℕ) : Panel → Type 0 where
   over : 65536 < length s → JournalPanel s p (refusedWith 8)
-  read : (b : Book) (m : List ℕ) (r : Panel) → length s ≤ 65536 → Leaves s b m → PanelOf b m p r → JournalPanel s p r
+  read : (b : Book) (m k : List ℕ) (r : Panel) → length s ≤ 65536 → Leaves s b m k → PanelOf b m k p r → JournalPanel s p r
 
 -- The four bytes of a 32-bit word, high byte first.
 abbrev pub bytesOf : ℕ → List ℕ

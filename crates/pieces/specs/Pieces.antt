@@ -8,7 +8,7 @@ use Rattle.pieces.specs.declared.Piece.{Piece}
 use Rattle.pieces.specs.declared.Piece.the-variants as piece
 use Rattle.pieces.specs.declared.Word.{Word}
 use Rattle.pieces.specs.declared.Word.the-variants as word
-use Rattle.pieces.specs.Words.{space, newline, permitted, notPermitted, refusedWord, endWord, marksWord}
+use Rattle.pieces.specs.Words.{space, newline, permitted, openWord, notPermitted, refusedWord, endWord, marksWord}
 
 -- Each byte of a list as a piece of its own: "letters, sign and digits directly, each in a write of its own".
 unfoldable pub each : List ℕ → List (List ℕ)
@@ -28,6 +28,7 @@ abbrev pub wordBytes : Word → List ℕ
 wordBytes word.Space = space
 wordBytes word.Newline = newline
 wordBytes word.Permitted = permitted
+wordBytes word.Open = openWord
 wordBytes word.NotPermitted = notPermitted
 wordBytes word.Refused = refusedWord
 wordBytes word.End = endWord

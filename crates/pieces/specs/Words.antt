@@ -13,6 +13,10 @@ newline = 10 ∷ []
 abbrev pub permitted : List ℕ
 permitted = 32 ∷ 112 ∷ 101 ∷ 114 ∷ 109 ∷ 105 ∷ 116 ∷ 116 ∷ 101 ∷ 100 ∷ []
 
+-- Document 02, 5: "`open` after QU": " open"
+abbrev pub openWord : List ℕ
+openWord = 32 ∷ 111 ∷ 112 ∷ 101 ∷ 110 ∷ []
+
 -- " not permitted"
 abbrev pub notPermitted : List ℕ
 notPermitted = 32 ∷ 110 ∷ 111 ∷ 116 ∷ permitted

@@ -15,6 +15,7 @@ pub enum Word {
     Space,
     Newline,
     Permitted,
+    Open,
     NotPermitted,
     Refused,
     End,

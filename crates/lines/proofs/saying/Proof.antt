@@ -40,6 +40,14 @@ answered-requires-2 c κs = search needs
 enum-known-s-4 : tie.Need-enum-known-s-4
 enum-known-s-4 c = search needs
 
+-- src/lib.rt:79:34
+answered-requires-3 : tie.Need-answered-requires-3
+answered-requires-3 c κs = search needs
+
+-- src/lib.rt:80:23
+enum-known-s-5 : tie.Need-enum-known-s-5
+enum-known-s-5 c = search needs
+
 -- src/pieces.rt:124:29
 refused-requires : tie.Need-refused-requires
 refused-requires c κs = search needs
@@ -62,7 +70,12 @@ returns-3 c = (c .answered2) .ensures ∙ ap (λ (x : Said). getD (saidPieces x)
 -- src/pieces.rt:117:1
 returns-4 : tie.Need-returns-4
 unfolding saidPieces
-returns-4 c = (c .refused) .ensures ∙ ap (λ (x : Said). getD (saidPieces x) ((c .before .before .before .before .args) .i) []) (sym ((c .before .before .s4) .given .1))
+returns-4 c = (c .answered3) .ensures ∙ ap (λ (x : Said). getD (saidPieces x) ((c .before .before .before .before .args) .i) []) (sym ((c .before .before .s4) .given .1))
+
+-- src/lib.rt:70:1
+returns-5 : tie.Need-returns-5
+unfolding saidPieces
+returns-5 c = (c .refused) .ensures ∙ ap (λ (x : Said). getD (saidPieces x) ((c .before .before .before .before .args) .i) []) (sym ((c .before .before .s5) .given .1))
 
 pub saying-spec : {M : Type 1} → statement M
 saying-spec =
@@ -75,8 +88,11 @@ saying-spec =
     enum-known-s-3
     answered-requires-2
     enum-known-s-4
+    answered-requires-3
+    enum-known-s-5
     refused-requires
     returns
     returns-2
     returns-3
-    returns-4)
+    returns-4
+    returns-5)

@@ -91,6 +91,18 @@ slice-aggregate-put-7 c = search needs
 put-requires-7 : tie.Need-put-requires-7
 put-requires-7 c κs = ((c .before .before .before .pre) .0, ap wordBytes (sym ((c .before .enum-told7) .given .1)) ∙ (c .before .before .before .pre) .1)
 
+-- src/main.rt:160:34
+enum-told-8 : tie.Need-enum-told-8
+enum-told-8 c = search needs
+
+-- src/main.rt:160:34
+slice-aggregate-put-8 : tie.Need-slice-aggregate-put-8
+slice-aggregate-put-8 c = search needs
+
+-- src/main.rt:160:24
+put-requires-8 : tie.Need-put-requires-8
+put-requires-8 c κs = ((c .before .before .before .pre) .0, ap wordBytes (sym ((c .before .enum-told8) .given .1)) ∙ (c .before .before .before .pre) .1)
+
 -- src/main.rt:147:1
 returns : tie.Need-returns
 returns c = search needs
@@ -119,6 +131,10 @@ returns-6 c = search needs
 returns-7 : tie.Need-returns-7
 returns-7 c = search needs
 
+-- src/main.rt:147:1
+returns-8 : tie.Need-returns-8
+returns-8 c = search needs
+
 pub put-word-spec : {M : Type 1} → statement M
 put-word-spec =
     tie.close
@@ -144,10 +160,14 @@ put-word-spec =
     enum-told-7
     slice-aggregate-put-7
     put-requires-7
+    enum-told-8
+    slice-aggregate-put-8
+    put-requires-8
     returns
     returns-2
     returns-3
     returns-4
     returns-5
     returns-6
-    returns-7)
+    returns-7
+    returns-8)

@@ -15,17 +15,21 @@ answer-for-requires c κs = search needs
 enum-told : tie.Need-enum-told
 enum-told c = search needs
 
--- src/lib.rt:56:33
+-- src/lib.rt:56:25
 enum-told-2 : tie.Need-enum-told-2
 enum-told-2 c = search needs
 
--- src/lib.rt:57:31
+-- src/lib.rt:57:33
 enum-told-3 : tie.Need-enum-told-3
 enum-told-3 c = search needs
 
 -- src/lib.rt:58:31
 enum-told-4 : tie.Need-enum-told-4
 enum-told-4 c = search needs
+
+-- src/lib.rt:59:31
+enum-told-5 : tie.Need-enum-told-5
+enum-told-5 c = search needs
 
 -- src/lib.rt:49:1
 returns : tie.Need-returns
@@ -43,6 +47,10 @@ returns-3 c = ap oneFor (sym (c .enum-told3 .given .1) ∙ c .before .before .an
 returns-4 : tie.Need-returns-4
 returns-4 c = ap oneFor (sym (c .enum-told4 .given .1) ∙ c .before .before .answer-for .ensures)
 
+-- src/lib.rt:49:1
+returns-5 : tie.Need-returns-5
+returns-5 c = ap oneFor (sym (c .enum-told5 .given .1) ∙ c .before .before .answer-for .ensures)
+
 pub one-spec : {M : Type 1} → statement M
 one-spec =
     tie.close
@@ -52,7 +60,9 @@ one-spec =
     enum-told-2
     enum-told-3
     enum-told-4
+    enum-told-5
     returns
     returns-2
     returns-3
-    returns-4)
+    returns-4
+    returns-5)

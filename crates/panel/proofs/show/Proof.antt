@@ -32,19 +32,19 @@ enum-told c = search needs
 
 -- src/lib.rt:109:18
 word-requires : tie.Need-word-requires
-word-requires c κs = let h = shown-form (c .before .before .before .before .before .args .b) (c .before .before .before .before .before .args .marks .now) (c .before .before .before .before .before .args .p) (c .before .before .before .in-form .result) (c .before .before .before .in-form .ensures) (sym (c .before .before .verdict .ensures) ∙ c .enum-told .given .1) in (h .1, h .0 .marks)
+word-requires c κs = let h = shown-form (c .before .before .before .before .before .before .args .b) (c .before .before .before .before .before .before .args .marks .now) (c .before .before .before .before .before .before .args .second .now) (c .before .before .before .before .before .before .args .p) (c .before .before .before .in-form .result) (c .before .before .before .in-form .ensures) (sym (c .before .before .verdict .ensures) ∙ c .enum-told .given .1) in (h .1, h .0 .marks .count, h .0 .second .count)
 
 -- src/lib.rt:110:21
 word-requires-2 : tie.Need-word-requires-2
-word-requires-2 c κs = let h = shown-form (c .before .before .before .before .before .before .args .b) (c .before .before .before .before .before .before .args .marks .now) (c .before .before .before .before .before .before .args .p) (c .before .before .before .before .in-form .result) (c .before .before .before .before .in-form .ensures) (sym (c .before .before .before .verdict .ensures) ∙ c .before .enum-told .given .1) in (h .1, h .0 .marks)
+word-requires-2 c κs = let h = shown-form (c .before .before .before .before .before .before .before .args .b) (c .before .before .before .before .before .before .before .args .marks .now) (c .before .before .before .before .before .before .before .args .second .now) (c .before .before .before .before .before .before .before .args .p) (c .before .before .before .before .in-form .result) (c .before .before .before .before .in-form .ensures) (sym (c .before .before .before .verdict .ensures) ∙ c .before .enum-told .given .1) in (h .1, h .0 .marks .count, h .0 .second .count)
 
 -- src/lib.rt:101:1
 returns : tie.Need-returns
-returns c = panel-refused (c .before .before .before .before .before .before .before .args .b) (c .before .before .before .before .before .before .before .args .marks .now) (c .before .before .before .before .before .before .before .args .p) (c .before .before .before .before .before .in-form .result) (c .before .before .before .before .before .in-form .ensures) _ (sym (c .before .before .before .before .verdict .ensures) ∙ c .before .before .said .given .1) _ (c .refused .ensures)
+returns c = panel-refused (c .before .before .before .before .before .before .before .before .args .b) (c .before .before .before .before .before .before .before .before .args .marks .now) (c .before .before .before .before .before .before .before .before .args .second .now) (c .before .before .before .before .before .before .before .before .args .p) (c .before .before .before .before .before .in-form .result) (c .before .before .before .before .before .in-form .ensures) _ (sym (c .before .before .before .before .verdict .ensures) ∙ c .before .before .said .given .1) _ (c .refused .ensures)
 
 -- src/lib.rt:101:1
 returns-2 : tie.Need-returns-2
-returns-2 c = panel-shown (c .before .before .before .before .before .before .before .args .b) (c .before .before .before .before .before .before .before .args .marks .now) (c .before .before .before .before .before .before .before .args .p) (c .before .before .before .before .before .in-form .result) (c .before .before .before .before .before .in-form .ensures) (sym (c .before .before .before .before .verdict .ensures) ∙ c .before .before .enum-told .given .1) (c .before .word .result) (c .word2 .result) (c .before .word .ensures) (c .word2 .ensures)
+returns-2 c = panel-shown (c .before .before .before .before .before .before .before .before .args .b) (c .before .before .before .before .before .before .before .before .args .marks .now) (c .before .before .before .before .before .before .before .before .args .second .now) (c .before .before .before .before .before .before .before .before .args .p) (c .before .before .before .before .before .in-form .result) (c .before .before .before .before .before .in-form .ensures) (sym (c .before .before .before .before .verdict .ensures) ∙ c .before .before .enum-told .given .1) (c .before .word .result) (c .word2 .result) (c .before .word .ensures) (c .word2 .ensures)
 
 pub show-spec : {M : Type 1} → statement M
 show-spec =

@@ -6,7 +6,7 @@ use mathlib.Core.List.{List}
 use lib.Dec.{leb}
 use Rattle.sorts.specs.Numbers.{numberOf, speakers, packs}
 use Rattle.book.specs.declared.Answer.{Answer}
-use Rattle.book.specs.declared.Answer.the-variants.{Permitted, NotPermitted, Changed, Refused}
+use Rattle.book.specs.declared.Answer.the-variants.{Permitted, Open, NotPermitted, Changed, Refused}
 use Rattle.book.specs.Calls.{answerAt}
 use Rattle.panel.specs.declared.PackRight.{PackRight}
 use Rattle.panel.specs.declared.Said as said
@@ -15,22 +15,23 @@ use Rattle.panel.specs.Panels.{conclusionOf, bit}
 -- 1 for an answer that permits
 abbrev pub oneFor : Answer → ℕ
 oneFor Permitted = 1
+oneFor Open = 0
 oneFor NotPermitted = 0
 oneFor (Changed c) = 0
 oneFor (Refused k) = 0
 
 -- the bit of pack n, from the marks
-abbrev pub packBit : List ℕ → ℕ → PackRight → ℕ → ℕ
-packBit m p x n = oneFor (answerAt m (numberOf (conclusionOf p x n)))
+abbrev pub packBit : List ℕ → List ℕ → ℕ → PackRight → ℕ → ℕ
+packBit m k p x n = oneFor (answerAt m k (numberOf (conclusionOf p x n)))
 
--- the word of the packs from n on, up to the last
-pub record WordFrom (m : List ℕ) (p : ℕ) (x : PackRight) (n : ℕ) (k : ℕ) (w : ℕ) : Type 0 where
-  pub bits : (j : ℕ) → j < k → bit w j ≡ packBit m p x (j + n)
-  pub size : w < 2 ^ k
+-- the word of u packs from n on, up to the last
+pub record WordFrom (m k : List ℕ) (p : ℕ) (x : PackRight) (n u w : ℕ) : Type 0 where
+  pub bits : (j : ℕ) → j < u → bit w j ≡ packBit m k p x (j + n)
+  pub size : w < 2 ^ u
 
 -- the word of all packs
-abbrev pub WordOf : List ℕ → ℕ → PackRight → ℕ → Type 0
-WordOf m p x w = WordFrom m p x 0 packs w
+abbrev pub WordOf : List ℕ → List ℕ → ℕ → PackRight → ℕ → Type 0
+WordOf m k p x w = WordFrom m k p x 0 packs w
 
 -- what is said, by whether the book is in form and by the principal
 abbrev pub saidOf : Bool → ℕ → said.Said

@@ -7,8 +7,8 @@ use Rattle.panel_boundary.proofs.panel_after.Tie as tie
 use Rattle.panel_boundary.proofs.panel_after.Reads as reads
 use Rattle.panel_boundary.proofs.panel_after.Lts as lts
 use Rattle.journal.proofs.book_after.Reads as book-after-reads
-use Rattle.places.proofs.over.Reads as over-reads
 use Rattle.panel.proofs.show.Reads as show-reads
+use Rattle.places.proofs.over.Reads as over-reads
 
 -- src/lib.rt:18:8
 over-requires : tie.Need-over-requires
@@ -31,10 +31,21 @@ same-length : tie.Need-same-length
 same-length c = search needs
 
 -- src/lib.rt:14:1
+same-length-2 : tie.Need-same-length-2
+same-length-2 c = search needs
+
+-- src/lib.rt:14:1
 returns-2 : tie.Need-returns-2
-returns-2 c = read (c .before .before .before .before .book-after .result) _ (c .show .result) (ltb-false 65536 _ (sym (c .before .before .before .before .before .before .before .over .ensures) ∙ c .before .before .before .before .before .before .if1 .left)) (c .before .before .before .before .book-after .ensures) (c .show .ensures)
+returns-2 c = read (c .before .before .before .before .before .before .before .book-after .result) _ _ (c .show .result) (ltb-false 65536 _ (sym (c .before .before .before .before .before .before .before .before .before .before .before .over .ensures) ∙ c .before .before .before .before .before .before .before .before .before .before .if1 .left)) (c .before .before .before .before .before .before .before .book-after .ensures) (c .show .ensures)
 
 pub panel-after-spec : {M : Type 1} → statement M
 panel-after-spec =
     tie.close
-    (tie.spec over-requires returns book-after-requires show-requires same-length returns-2)
+    (tie.spec
+    over-requires
+    returns
+    book-after-requires
+    show-requires
+    same-length
+    same-length-2
+    returns-2)

@@ -9,20 +9,24 @@ use Rattle.panel_boundary.proofs.number.Reads as number-reads
 use Rattle.panel_boundary.proofs.panel_after.Reads as panel-after-reads
 use Rattle.panel_boundary.proofs.words.Reads as words-reads
 
--- src/lib.rt:70:31
+-- src/lib.rt:71:31
 slice-aggregate-panel-after : tie.Need-slice-aggregate-panel-after
 slice-aggregate-panel-after c = search needs
 
--- src/lib.rt:70:9
+-- src/lib.rt:71:43
+slice-aggregate-panel-after-2 : tie.Need-slice-aggregate-panel-after-2
+slice-aggregate-panel-after-2 c = search needs
+
+-- src/lib.rt:71:9
 panel-after-requires : tie.Need-panel-after-requires
 unfolding freshMarks
-panel-after-requires c κs = refl
+panel-after-requires c κs = (refl, refl)
 
--- src/lib.rt:71:12
+-- src/lib.rt:72:12
 words-requires : tie.Need-words-requires
 words-requires c κs = search needs
 
--- src/lib.rt:73:5
+-- src/lib.rt:74:5
 number-requires : tie.Need-number-requires
 number-requires c κs = search needs
 
@@ -35,6 +39,7 @@ panel-of-journal-spec =
     tie.close
     (tie.spec
     slice-aggregate-panel-after
+    slice-aggregate-panel-after-2
     panel-after-requires
     words-requires
     number-requires

@@ -1,5 +1,5 @@
 use native.Mathlib.Omega.{arith}
-use Rattle.lines.proofs.Joining.{changed-length, permitted-length, not-permitted-length, refusal-length}
+use Rattle.lines.proofs.Joining.{changed-length, permitted-length, open-length, not-permitted-length, refusal-length}
 use borrow.Author.Needs.{needs}
 use Rattle.lines.proofs.sizes.of_said.Statement.{statement}
 use Rattle.lines.proofs.sizes.of_said.Tie as tie
@@ -28,6 +28,10 @@ enum-told c = search needs
 enum-told-2 : tie.Need-enum-told-2
 enum-told-2 c = search needs
 
+-- src/sizes.rt:18:34
+enum-told-3 : tie.Need-enum-told-3
+enum-told-3 c = search needs
+
 -- src/sizes.rt:36:23
 enum-known-s-2 : tie.Need-enum-known-s-2
 enum-known-s-2 c = search needs
@@ -54,11 +58,15 @@ returns-2 c = (omega (arith, permitted-length ((c .before .before .args) .s) _ (
 
 -- src/sizes.rt:29:1
 returns-3 : tie.Need-returns-3
-returns-3 c = (omega (arith, not-permitted-length ((c .before .before .args) .s) _ ((c .enum-told2) .given .1)), omega arith)
+returns-3 c = (omega (arith, open-length ((c .before .before .args) .s) _ ((c .enum-told2) .given .1)), omega arith)
+
+-- src/sizes.rt:12:1
+returns-4 : tie.Need-returns-4
+returns-4 c = (omega (arith, not-permitted-length ((c .before .before .args) .s) _ ((c .enum-told3) .given .1)), omega arith)
 
 -- src/sizes.rt:29:1
-returns-4 : tie.Need-returns-4
-returns-4 c = (omega (arith, (c .count) .ensures .0, refusal-length ((c .before .before .before .before .args) .s) _ ((c .before .before .s2) .given .1)), omega (arith, (c .count) .ensures .1))
+returns-5 : tie.Need-returns-5
+returns-5 c = (omega (arith, (c .count) .ensures .0, refusal-length ((c .before .before .before .before .args) .s) _ ((c .before .before .s2) .given .1)), omega (arith, (c .count) .ensures .1))
 
 pub of-said-spec : {M : Type 1} → statement M
 of-said-spec =
@@ -69,6 +77,7 @@ of-said-spec =
     add-result
     enum-told
     enum-told-2
+    enum-told-3
     enum-known-s-2
     cast-count
     count-requires
@@ -76,4 +85,5 @@ of-said-spec =
     returns
     returns-2
     returns-3
-    returns-4)
+    returns-4
+    returns-5)
