@@ -104,19 +104,29 @@ fn gringo_marks(t: &Tools, b: &Book) -> Vec<u8> {
     marks
 }
 
-/// All have to come to the same marks. The answers are how many stand, and how
+/// gringo comes to the same marks as the hand-written evaluator.
+fn same_marks(t: &Tools, b: &Book, hand: &[u8; MARKS]) {
+    let gringo = gringo_marks(t, b);
+    let differ = (0..MARKS).find(|m| gringo[*m] != hand[*m]);
+    if let Some(m) = differ {
+        panic!(
+            "{}: mark {}: gringo {}, by hand {}",
+            b.name, m, gringo[m], hand[m]
+        );
+    }
+}
+
+/// All have to come to the same marks, also with the provisional licences taken
+/// as firm. The answers are how many stand, and how
 /// many lines the two listings share.
 pub fn agree(t: &Tools, b: &Book) -> (usize, usize) {
     let mut hand = hand_book::Book::new();
     hand.take(&b.journal);
     if t.gringo {
-        let gringo = gringo_marks(t, b);
-        let differ = (0..MARKS).find(|m| gringo[*m] != hand.marks[*m]);
-        if let Some(m) = differ {
-            panic!(
-                "{}: mark {}: gringo {}, by hand {}",
-                b.name, m, gringo[m], hand.marks[m]
-            );
+        same_marks(t, b, &hand.marks);
+        let waits = b.rows.iter().any(|row| row.waiting.contains(&true));
+        if waits {
+            same_marks(t, &b.taken_as_firm(), &hand.second_marks());
         }
     }
     let marks = hand.marks.iter().map(|m| *m as usize).sum();

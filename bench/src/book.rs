@@ -81,6 +81,12 @@ pub fn write_grant(g: &Grant, out: &mut Vec<u8>) {
     write_con(&g.head, out);
 }
 
+fn licence(letters: &[u8; 2], p: u8, g: &Grant) -> Vec<u8> {
+    let mut record = [letters.as_slice(), &[p]].concat();
+    write_grant(g, &mut record);
+    record
+}
+
 /// A conclusion in a row: principal, and a slot that is fixed or a base to
 /// which the value of the resource variable is added.
 #[derive(Clone, Copy)]
@@ -97,6 +103,8 @@ pub struct Row {
     pub head: Atom,
     pub trusted: bool,
     pub issued: [bool; PRINS],
+    /// by whom it is provisional
+    pub waiting: [bool; PRINS],
 }
 
 #[derive(Clone)]
@@ -186,6 +194,7 @@ impl Book {
             head,
             trusted: false,
             issued: [false; PRINS],
+            waiting: [false; PRINS],
         });
         self.rows.len() - 1
     }
@@ -206,12 +215,49 @@ impl Book {
     pub fn issue(&mut self, p: u8, g: &Grant) {
         let n = self.number(g);
         self.rows[n].issued[p as usize] = true;
-        let mut rec = b"LI".to_vec();
-        rec.push(p);
-        write_grant(g, &mut rec);
+        self.rows[n].waiting[p as usize] = false;
+        let rec = licence(b"LI", p, g);
         self.journal.extend(&rec);
         self.records += 1;
         self.entries.push(rec);
+    }
+
+    /// Enters a provisional licence; a firm one stays firm.
+    pub fn wait(&mut self, p: u8, g: &Grant) {
+        let n = self.number(g);
+        self.rows[n].waiting[p as usize] = !self.rows[n].issued[p as usize];
+        self.journal.extend(licence(b"PL", p, g));
+        self.records += 1;
+    }
+
+    /// Confirms a licence if it is provisional.
+    pub fn confirm(&mut self, p: u8, g: &Grant) {
+        let n = self.number(g);
+        if self.rows[n].waiting[p as usize] {
+            self.rows[n].waiting[p as usize] = false;
+            self.rows[n].issued[p as usize] = true;
+            self.journal.extend(licence(b"CF", p, g));
+            self.records += 1;
+        }
+    }
+
+    /// The rows with all provisional licences taken as firm.
+    pub fn taken_as_firm(&self) -> Book {
+        let mut book = self.clone();
+        for row in &mut book.rows {
+            (0..PRINS).for_each(|p| row.issued[p] |= row.waiting[p]);
+        }
+        book
+    }
+
+    /// A record that enters the shortest numbered grant that it can as a
+    /// provisional licence of somebody who has no licence of it.
+    pub fn awaited(&self) -> Vec<u8> {
+        let free = |row: &Row| (0..PRINS).rev().find(|p| !row.issued[*p] && !row.waiting[*p]);
+        let pairs = self.names.iter().zip(&self.rows);
+        let found = pairs.filter_map(|(name, row)| Some((name, free(row)?)));
+        let (name, p) = found.min_by_key(|(name, _)| name.len()).expect("some licence is free");
+        [b"PL", [p as u8].as_slice(), name].concat()
     }
 
     /// A query that numbers the grant and lets nothing stand.

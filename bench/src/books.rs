@@ -342,7 +342,8 @@ fn nested() -> Book {
     b
 }
 
-/// The books of the table, and more chains that wake heavy rows.
+/// The books of the table, more chains that wake heavy rows, and one of them
+/// with a provisional licence.
 pub fn for_worst() -> Vec<Book> {
     let mut books = all();
     for (grants, heavy) in [(10, 20), (17, 13)] {
@@ -351,6 +352,10 @@ pub fn for_worst() -> Vec<Book> {
     for (grants, heavy) in [(15, 15), (13, 17)] {
         books.push(wakes(16, 16, grants, heavy, true));
     }
+    let mut waiting = wakes(16, 16, 15, 15, false);
+    waiting.name += ", one provisional";
+    waiting.wait(15, &short());
+    books.push(waiting);
     books
 }
 
@@ -379,8 +384,22 @@ pub fn all() -> Vec<Book> {
     ]
 }
 
+/// The books on which provisional licences are measured.
+pub fn for_waiting() -> Vec<Book> {
+    vec![
+        small(),
+        constants(),
+        variables(60),
+        never(60),
+        dense(true),
+        chain("chain, x y", true, true, false, false),
+        wakes(4, 4, 4, 24, false),
+    ]
+}
+
 /// A book drawn from a seed, to compare the evaluators on more than the table.
-pub fn drawn(seed: u64) -> Book {
+/// Where licences wait, some are provisional and some were.
+pub fn drawn(seed: u64, waits: bool) -> Book {
     let mut s = seed.wrapping_mul(0x9E37_79B9_7F4A_7C15) | 1;
     let mut next = move |n: u64| {
         s ^= s << 13;
@@ -436,7 +455,16 @@ pub fn drawn(seed: u64) -> Book {
         let g = grant(prins, res, conds, head);
         match next(4) {
             0 => b.trust(&g),
-            _ => b.issue(next(3) as u8, &g),
+            k => {
+                let p = next(3) as u8;
+                match waits {
+                    false => b.issue(p, &g),
+                    true => b.wait(p, &g),
+                }
+                if waits && k == 1 {
+                    b.confirm(p, &g);
+                }
+            }
         }
         if next(3) == 0 {
             b.issue(next(3) as u8, &g);

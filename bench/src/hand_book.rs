@@ -2,10 +2,12 @@
 // listing of the product's scope document, each line with one write. It reads
 // a record, looks its grants up, evaluates, counts the truths and the sayings
 // gained and lost against the marks that stood, and prints, as the book does;
-// it does not test the form of a book, which nobody lends it.
+// it does not test the form of a book, which nobody lends it. Where provisional
+// licences stand it evaluates a second time, with them taken as firm, and keeps
+// the words of that; where none stand, that would give the same marks.
 
-use crate::book::{GRANTS, JOURNAL_LIMIT, MARKS, X};
-use crate::hand::{write_and_count, Atom, Row, Table, Words};
+use crate::book::{GRANTS, JOURNAL_LIMIT, MARKS, PRINS, X};
+use crate::hand::{write_and_count, write_marks, Atom, Row, Table, Words};
 use std::fs::File;
 use std::io::{Read, Write};
 use std::mem::ManuallyDrop;
@@ -19,6 +21,10 @@ pub struct Book {
     pub table: Table,
     pub words: Words,
     pub marks: Box<[u8; MARKS]>,
+    /// the provisional licences of each principal: bit g for grant g
+    waiting: [u64; PRINS],
+    /// the words with the provisional licences taken as firm, where any stand
+    all: Words,
     rows: [Row; ROOM],
     keys: [u64; ROOM],
     /// rows known, the new ones of the record that is being read included
@@ -28,7 +34,10 @@ pub struct Book {
 pub enum Answer {
     /// gained less lost, of truths and of sayings
     Nets([i32; 2]),
-    Query(bool),
+    Permitted,
+    NotPermitted,
+    /// not with the firm licences alone, but with the provisional ones
+    Open,
     Refused(u8),
 }
 
@@ -102,6 +111,8 @@ impl Book {
             table: Table::new(),
             words: Words::new(),
             marks: Box::new([0; MARKS]),
+            waiting: [0; PRINS],
+            all: Words::new(),
             rows: [Row::default(); ROOM],
             keys: [0; ROOM],
             known: 0,
@@ -185,12 +196,6 @@ impl Book {
                 self.give_numbers()?;
                 self.table.trust(g as usize, true);
             }
-            b"LI" => {
-                let p = r.up_to(0x0F)?;
-                let g = self.grant(r, 1)?;
-                self.give_numbers()?;
-                self.table.issue(p as usize, g as usize, true);
-            }
             b"ST" => {
                 let g = self.grant(r, 1)? as usize;
                 if g >= self.table.count || self.table.trusted >> g & 1 == 0 {
@@ -198,27 +203,86 @@ impl Book {
                 }
                 self.table.trust(g, false);
             }
-            b"WD" => {
+            b"LI" | b"PL" | b"WD" | b"CF" => {
                 let p = r.up_to(0x0F)? as usize;
                 let g = self.grant(r, 1)? as usize;
-                if g >= self.table.count || self.table.issued[p] >> g & 1 == 0 {
-                    return Err(7);
-                }
-                self.table.issue(p, g, false);
+                self.licence(&letters, p, g)?;
             }
-            b"QU" => {
-                let a = self.conclusion(r, Declared(0, 0), 0)?;
-                self.give_numbers()?;
-                let base = [0, 16, 80, 112][a.kind as usize];
-                let c = 144 * a.prin as usize + base + a.item as usize;
-                return Ok(Answer::Query(self.marks[c] == 1));
-            }
+            b"QU" => return self.query(r),
             _ => return Err(2),
+        }
+        Ok(Answer::Nets(self.evaluate()))
+    }
+
+    /// Issues, enters as provisional, withdraws or confirms a licence.
+    fn licence(&mut self, letters: &[u8; 2], p: usize, g: usize) -> Result<(), u8> {
+        if matches!(letters, b"LI" | b"PL") {
+            self.give_numbers()?;
+        } else if g >= self.table.count {
+            return Err(7);
+        }
+        let firm = self.table.issued[p] >> g & 1 == 1;
+        let waits = self.waiting[p] >> g & 1 == 1;
+        match letters {
+            b"WD" if !firm && !waits => return Err(7),
+            b"CF" if !waits => return Err(7),
+            b"PL" if firm => return Ok(()),
+            _ => {}
+        }
+        let waits = letters == b"PL";
+        self.waiting[p] = self.waiting[p] & !(1 << g) | (waits as u64) << g;
+        self.table.issue(p, g, matches!(letters, b"LI" | b"CF"));
+        Ok(())
+    }
+
+    fn query(&mut self, r: &mut Reader) -> Result<Answer, u8> {
+        let a = self.conclusion(r, Declared(0, 0), 0)?;
+        self.give_numbers()?;
+        let (prin, kind, item) = (a.prin as usize, a.kind as usize, a.item as usize);
+        let c = 144 * prin + [0, 16, 80, 112][kind] + item;
+        Ok(match self.marks[c] {
+            1 => Answer::Permitted,
+            _ if self.waits() && self.all.truth(prin, kind, item) => Answer::Open,
+            _ => Answer::NotPermitted,
+        })
+    }
+
+    /// Whether any provisional licence stands.
+    fn waits(&self) -> bool {
+        self.waiting.iter().any(|grants| *grants != 0)
+    }
+
+    /// Works out the marks of the firm licences and, where provisional ones
+    /// stand, the words with those too. The answer is what the marks gained less
+    /// what they lost.
+    fn evaluate(&mut self) -> [i32; 2] {
+        if self.waits() {
+            self.take_as_firm(true);
+            self.table.evaluate(&mut self.all);
+            self.take_as_firm(false);
         }
         self.table.evaluate(&mut self.words);
         let changes = write_and_count(&self.words, &mut self.marks);
-        let nets = changes.map(|c| c.gained as i32 - c.lost as i32);
-        Ok(Answer::Nets(nets))
+        changes.map(|c| c.gained as i32 - c.lost as i32)
+    }
+
+    fn take_as_firm(&mut self, on: bool) {
+        for p in 0..PRINS {
+            let mut left = self.waiting[p];
+            while left != 0 {
+                self.table.issue(p, left.trailing_zeros() as usize, on);
+                left &= left - 1;
+            }
+        }
+    }
+
+    /// The marks with the provisional licences taken as firm.
+    pub fn second_marks(&self) -> Box<[u8; MARKS]> {
+        let mut marks = self.marks.clone();
+        if self.waits() {
+            write_marks(&self.all, &mut marks);
+        }
+        marks
     }
 
     /// Gives the record's new grants their numbers, if there is room.
@@ -311,8 +375,9 @@ pub fn list() {
                     line.number(net.unsigned_abs());
                 }
             }
-            Answer::Query(true) => line.add(b"QU permitted"),
-            Answer::Query(false) => line.add(b"QU not permitted"),
+            Answer::Permitted => line.add(b"QU permitted"),
+            Answer::NotPermitted => line.add(b"QU not permitted"),
+            Answer::Open => line.add(b"QU open"),
             Answer::Refused(n) => {
                 line.add(b"refused ");
                 line.number(n as u32);

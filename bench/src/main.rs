@@ -10,6 +10,7 @@ mod hand_book;
 mod measure;
 mod panel;
 mod picture;
+mod waiting;
 mod worst;
 
 use book::{Book, GRANTS};
@@ -346,7 +347,8 @@ fn main() {
         gringo,
     };
     let drawn: Vec<_> = (1..=DRAWN)
-        .map(|n| agree::agree(&t, &books::drawn(n)))
+        .flat_map(|n| [books::drawn(n, false), books::drawn(n, true)])
+        .map(|b| agree::agree(&t, &b))
         .collect();
     let most = drawn.iter().map(|(marks, _)| *marks).max().unwrap_or(0);
     let lines: usize = drawn.iter().map(|(_, lines)| *lines).sum();
@@ -370,12 +372,14 @@ fn main() {
         .filter(|b| b.rows.len() == GRANTS)
         .map(|b| (b.name.as_str(), query(&t, b)))
         .collect();
+    let waiting: Vec<waiting::Found> =
+        books::for_waiting().iter().map(|b| waiting::measure(&t, b)).collect();
     let (panel, beside) = panel::measure();
     let (tried, worst) = worst::search(&t, &books::for_worst(), JOURNAL_GOAL);
 
     println!(
         "the same marks and lines on {} drawn books (up to {} marks, {} lines) and on every book below\n",
-        DRAWN, most, lines
+        drawn.len(), most, lines
     );
     let other = match gringo {
         true => format!("less its empty program ({})", us(empty)),
@@ -389,6 +393,8 @@ fn main() {
         let r = ratio(with / without, QUERY_GOAL, 2);
         println!("{:<43} {:>8} {:>8} {:>7}", name, us(*with), us(*without), r);
     }
+    println!();
+    waiting::print(&waiting);
     println!();
     println!("a panel on a book of 64 rows, at most, beside a query on the same book");
     let r = ratio(panel / beside, PANEL_GOAL, 2);
@@ -417,6 +423,13 @@ fn main() {
         "a query on 64 rows at most 3 times one on an empty book",
         &ratios,
         QUERY_GOAL,
+    );
+    let ratios: Vec<(&str, f64)> =
+        waiting.iter().map(|f| (f.name.as_str(), f.by_licence())).collect();
+    goal(
+        "a changing record with a provisional licence at most 2 times one without",
+        &ratios,
+        waiting::WAITING_GOAL,
     );
     goal(
         "a panel on 64 rows at most 2 times a query",

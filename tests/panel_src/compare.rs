@@ -1,10 +1,12 @@
-//! Panels beside the other evaluator, and those that document 01 tells.
+//! Panels beside the other evaluator, and those that documents 01 and 02 tell.
+//! Where a right is open its bit is 0.
 
 use crate::boundary::{panel, Panel};
 use crate::families;
 use crate::parallel;
-use reference::listing::{replay, LONGEST_JOURNAL};
-use reference::sorts::{Claim, Conclusion, Statement, PACKS, PRINCIPALS};
+use crate::write;
+use reference::listing::{replay, Answer, Book, LONGEST_JOURNAL};
+use reference::sorts::{Claim, Conclusion, PACKS, PRINCIPALS};
 
 /// Principals above 15 that are asked about too.
 const ABOVE: [u8; 5] = [16, 17, 31, 128, 255];
@@ -24,11 +26,15 @@ pub fn generated(seed: u64) -> Vec<Vec<u8>> {
 pub fn run(journals: &[Vec<u8>]) -> bool {
     let judged = parallel::map(journals, |journal| judge(journal, &expected(journal)));
     let mut total = Judged::default();
-    judged.into_iter().chain(document01()).for_each(|one| total.add(one));
+    let written = document01().into_iter().chain(provisional_licences());
+    judged.into_iter().chain(written).for_each(|one| total.add(one));
     for fault in total.faults.iter().take(SHOWN_FAULTS) {
         println!("FAILED {fault}");
     }
-    println!("panels of {} journals: {} packs permitted to run or export", journals.len(), total.bits);
+    let open: usize = parallel::map(journals, |journal| open_rights(journal)).iter().sum();
+    let bits = total.bits;
+    let count = journals.len();
+    println!("panels of {count} journals: {bits} rights over packs permitted, {open} open");
     println!("{} passed, {} failed", total.passed, total.faults.len());
     total.faults.is_empty()
 }
@@ -68,28 +74,43 @@ fn refused(refusal: u8) -> Panel {
     Panel { refusal, run: 0, export: 0 }
 }
 
-/// The panels by the other evaluator's marks.
+/// The panels by the other evaluator's answers.
 fn expected(journal: &[u8]) -> Vec<(u8, Panel)> {
     let principals = (0..PRINCIPALS).chain(ABOVE);
     if journal.len() > LONGEST_JOURNAL {
         return principals.map(|principal| (principal, refused(8))).collect();
     }
-    let book = replay(journal, |_, _, _| {});
-    let word = |principal: u8, claim: fn(u8) -> Claim| {
-        let permitted = |&n: &u8| {
-            book.marks.has(Statement::True(Conclusion { principal, claim: claim(n) }))
-        };
-        (0..PACKS).filter(permitted).map(|n| 1 << n).sum()
-    };
-    let of = |principal: u8| match principal < PRINCIPALS {
+    let mut book = replay(journal, |_, _, _| {});
+    let mut of = |principal: u8| match principal < PRINCIPALS {
         true => Panel {
             refusal: 0,
-            run: word(principal, Claim::Run),
-            export: word(principal, Claim::Export),
+            run: word(&mut book, principal, Claim::Run),
+            export: word(&mut book, principal, Claim::Export),
         },
         false => refused(3),
     };
     principals.map(|principal| (principal, of(principal))).collect()
+}
+
+/// Bit n is 1 where the right over pack n is permitted.
+fn word(book: &mut Book, principal: u8, claim: fn(u8) -> Claim) -> u32 {
+    let answers = (0..PACKS).map(|n| (n, book.answer(Conclusion { principal, claim: claim(n) })));
+    answers.filter(|(_, answer)| *answer == Answer::Permitted).map(|(n, _)| 1 << n).sum()
+}
+
+/// How many rights over packs are open at the end of a journal.
+fn open_rights(journal: &[u8]) -> usize {
+    if journal.len() > LONGEST_JOURNAL {
+        return 0;
+    }
+    let mut book = replay(journal, |_, _, _| {});
+    let mut open = 0;
+    for principal in 0..PRINCIPALS {
+        for claim in (0..PACKS).flat_map(|n| [Claim::Run(n), Claim::Export(n)]) {
+            open += usize::from(book.answer(Conclusion { principal, claim }) == Answer::Open);
+        }
+    }
+    open
 }
 
 /// Answers written out from document 01: P10, "for all packs k, Perm(5, run,
@@ -103,4 +124,28 @@ fn document01() -> Vec<Judged> {
         judge(&export_of_pack_7, &[(15, shown(0, 1 << 7)), (7, shown(0, 0))]),
         judge(&[], &[(0, shown(0, 0)), (16, refused(3))]),
     ]
+}
+
+/// Answers written out from document 02, 5: trust in 1 to issue "3 may run any
+/// pack", which 1 enters as provisional and then confirms; pack 4 is trusted,
+/// so the provisional licence adds nothing there.
+fn provisional_licences() -> Vec<Judged> {
+    let shown = |run, export| Panel { refusal: 0, run, export };
+    let any_pack = plain_over_packs(&write::run(3, write::ANY_PACK));
+    let trusted = write::trust(&write::plain(&write::issue(1, &any_pack)));
+    let pack_4 = write::trust(&write::plain(&write::run(3, 4)));
+    let entered = [trusted, pack_4, write::provisional(1, &any_pack)].concat();
+    let confirmed = [entered.clone(), write::confirm(1, &any_pack)].concat();
+    let issued = [entered.clone(), write::licence(1, &any_pack)].concat();
+    let withdrawn = [confirmed.clone(), write::withdraw(1, &any_pack)].concat();
+    vec![
+        judge(&entered, &[(3, shown(1 << 4, 0)), (1, shown(0, 0)), (16, refused(3))]),
+        judge(&confirmed, &[(3, shown(0xFFFF_FFFF, 0)), (1, shown(0, 0))]),
+        judge(&issued, &[(3, shown(0xFFFF_FFFF, 0))]),
+        judge(&withdrawn, &[(3, shown(1 << 4, 0))]),
+    ]
+}
+
+fn plain_over_packs(conclusion: &[u8]) -> Vec<u8> {
+    write::for_all(0, write::OVER_PACKS, &[], conclusion)
 }

@@ -4,6 +4,7 @@ use crate::case::{Case, Expected};
 use crate::program::Program;
 use crate::properties::{answers, sums_and_signs};
 use crate::random::Random;
+use crate::without_provisional;
 use crate::write::Bytes;
 use reference::listing::{Listing, LONGEST_JOURNAL};
 use reference::reader::read_record;
@@ -39,6 +40,7 @@ pub fn check(program: &Program, case: &Case, reference: &Listing, seed: u64) -> 
         let fault = sums_and_signs(&printed, reference.standing).err();
         checks.push(Check { group: SUMS_AND_SIGNS, fault });
         checks.extend(without_refused(program, case, &printed, seed));
+        checks.extend(without_provisional::checks(program, &case.journal, &printed));
     }
     checks
 }

@@ -14,12 +14,12 @@ pub fn cases(seed: u64) -> Vec<Case> {
 }
 
 /// Statement i of a circle: who says which property of principal 2.
-fn circle_statement(i: usize) -> (u8, Bytes) {
+pub fn circle_statement(i: usize) -> (u8, Bytes) {
     ((i % 16) as u8, property((i / 16) as u8, 2))
 }
 
 /// Licence i of a circle: statement i holds if the next one does.
-fn circle_licence(i: usize, length: usize) -> (u8, Bytes) {
+pub fn circle_licence(i: usize, length: usize) -> (u8, Bytes) {
     let (speaker, conclusion) = circle_statement(i);
     let (next_speaker, next) = circle_statement((i + 1) % length);
     (speaker, when(&[said(next_speaker, &next)], &conclusion))
@@ -42,8 +42,8 @@ pub fn circles() -> Vec<Case> {
     (1..=30).map(case).collect()
 }
 
-/// The same with the records in random order, with trust in the issuers, and
-/// with one licence of the circle withdrawn at the end.
+/// The same with the records in random order, with trust in the issuers, some
+/// licences provisional, and one of the circle withdrawn at the end.
 fn shuffled_circles(seed: u64) -> Vec<Case> {
     const GROUP: &str = "circles in random order, with authority";
     let mut random = Random::new(seed, GROUP);
@@ -51,8 +51,10 @@ fn shuffled_circles(seed: u64) -> Vec<Case> {
     for length in 1..=30 {
         let links: Vec<(u8, Bytes)> = (0..length).map(|i| circle_licence(i, length)).collect();
         let (speaker, conclusion) = circle_statement(random.below(length));
-        let mut records: Vec<Bytes> = links.iter().map(|(p, grant)| licence(*p, grant)).collect();
-        records.push(licence(speaker, &plain(&conclusion)));
+        let share = *random.choose(&[0, 10, 50]);
+        let mut records: Vec<Bytes> =
+            links.iter().map(|(p, grant)| random.licence(share, *p, grant)).collect();
+        records.push(random.licence(share, speaker, &plain(&conclusion)));
         for principal in 0..length.min(16) as u8 {
             records.push(trust(&may_issue_all(principal)));
         }
@@ -139,6 +141,8 @@ fn long_chain(group: &'static str, name: &str, order: [u8; 16], links: &[(u8, By
         (licence(TELLER, &first), nets("LI", 0, 240)),
         (withdraw(TELLER, &first), nets("WD", 0, -240)),
         (trust(&may_issue_all(TELLER)), nets("TG", 64 + 1, 0)),
+        (provisional(TELLER, &first), nets("PL", 0, 0)),
+        (last.clone(), "QU open".to_string()),
         (licence(TELLER, &first), nets("LI", 240, 240)),
         (last.clone(), "QU permitted".to_string()),
         (withdraw(TELLER, &link), nets("WD", -8 * 16, -8 * 16)),

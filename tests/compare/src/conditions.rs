@@ -19,6 +19,7 @@ pub fn cases() -> Vec<Case> {
     for demand in demands() {
         for count in 1..=4 {
             cases.extend((0..count).map(|last| one_by_one(&demand, count, last)));
+            cases.extend((0..count).map(|last| one_provisional(&demand, count, last)));
         }
     }
     cases
@@ -90,5 +91,30 @@ fn one_by_one(demand: &Demand, count: u8, last: u8) -> Case {
     records.extend([withdraw(speaker, &grant), given]);
     answers.extend([nets("WD", -1, -1), "QU not permitted".to_string()]);
     let name = format!("{}: {count} conditions, number {last} last", demand.name);
+    Case::answers(GROUP, &name, &records, &answers, usize::from(count) - 1)
+}
+
+/// The given condition is met by a provisional licence, entered first; what is
+/// granted is open once the others are met, and permitted once it is firm.
+fn one_provisional(demand: &Demand, count: u8, waiting: u8) -> Case {
+    let conditions: Vec<Bytes> = (0..count).map(demand.condition).collect();
+    let given = query(&(demand.given)());
+    let meet = |i: u8| {
+        let (speaker, conclusion) = (demand.met_by)(i);
+        (speaker, plain(&conclusion))
+    };
+    let (partner, awaited) = meet(waiting);
+    let mut records = vec![trust(&(demand.grant)(&conditions)), provisional(partner, &awaited)];
+    let mut answers = vec![nets("TG", 0, 0), nets("PL", 0, 0)];
+    for i in (0..count).filter(|&i| i != waiting) {
+        let (speaker, grant) = meet(i);
+        records.extend([given.clone(), licence(speaker, &grant)]);
+        answers.extend(["QU not permitted".to_string(), nets("LI", 0, 1)]);
+    }
+    records.extend([given.clone(), confirm(partner, &awaited), given.clone()]);
+    answers.extend(["QU open".to_string(), nets("CF", 1, 1), "QU permitted".to_string()]);
+    records.extend([withdraw(partner, &awaited), given]);
+    answers.extend([nets("WD", -1, -1), "QU not permitted".to_string()]);
+    let name = format!("{}: {count} conditions, number {waiting} provisional", demand.name);
     Case::answers(GROUP, &name, &records, &answers, usize::from(count) - 1)
 }

@@ -1,17 +1,22 @@
 //! The two evaluators of the reference against each other: the top-down one
-//! answers the queries of small journals and a sample of all statements.
+//! answers the queries of small journals, under every choice of which
+//! provisional licences become firm, and a sample of all statements. And every
+//! choice against the two that take no provisional licence and all of them.
 
 use crate::case::Case;
 use crate::checks::Check;
 use crate::random::Random;
-use reference::listing::{replay, Book, Outcome};
+use reference::bottom_up::standing_statements;
+use reference::listing::{replay, Answer, Outcome};
+use reference::machine::Machine;
 use reference::numbered::closed_conclusion;
 use reference::reader::Record;
-use reference::sorts::{Statement, STATEMENTS};
-use reference::top_down::TopDown;
+use reference::sorts::{Conclusion, Marks, Statement, STATEMENTS};
+use reference::top_down::{answer, TopDown};
 
 pub const QUERIES: &str = "top-down against bottom-up: queries of small journals";
 pub const STATEMENTS_SAMPLED: &str = "top-down against bottom-up: sampled statements";
+pub const EXTREMES: &str = "every choice of provisional licences against none and all";
 
 const STEPS: u64 = 200_000;
 
@@ -26,42 +31,66 @@ pub struct Comparison {
 pub fn compare(case: &Case, seed: u64) -> Comparison {
     let mut found = Comparison::default();
     let book = replay(&case.journal, |entry, record, book| {
-        if let (Some(Record::Query(tree)), Outcome::Queried { permitted }) = (record, entry.outcome)
-        {
-            let conclusion = Statement::True(closed_conclusion(&book.machine, tree));
-            found.ask(QUERIES, &TopDown::new(&book.machine), conclusion, permitted);
+        if let (Some(Record::Query(tree)), Outcome::Queried(expected)) = (record, entry.outcome) {
+            let conclusion = closed_conclusion(&book.machine, tree);
+            found.ask(&book.machine, conclusion, expected);
         }
     });
     let mut random = Random::new(seed, &case.name);
-    let top_down = TopDown::new(&book.machine);
-    for statement in sample(&book, &mut random) {
-        found.ask(STATEMENTS_SAMPLED, &top_down, statement, book.marks.has(statement));
+    found.sample(&book.machine, &mut random);
+    if !book.machine.provisional.is_empty() {
+        found.sample(&book.machine.all_firm(), &mut random);
     }
     found
 }
 
 impl Comparison {
-    fn ask(
+    /// A query, whose answer is known from the bottom-up evaluator.
+    fn ask(&mut self, machine: &Machine, conclusion: Conclusion, expected: Answer) {
+        match answer(machine, conclusion, STEPS) {
+            Ok(found) => self.judge(QUERIES, conclusion, found, expected),
+            Err(_) => self.left += 1,
+        }
+        if !machine.provisional.is_empty() {
+            let stands = |machine: &Machine| {
+                standing_statements(machine).has(Statement::True(conclusion))
+            };
+            let found = Answer::of(&[stands(machine), stands(&machine.all_firm())]);
+            self.judge(EXTREMES, conclusion, found, expected);
+        }
+    }
+
+    /// A sample of what stands, and does not, with the firm licences.
+    fn sample(&mut self, machine: &Machine, random: &mut Random) {
+        let marks = standing_statements(machine);
+        let top_down = TopDown::new(machine);
+        for statement in sample(&marks, random) {
+            match top_down.stands(statement, STEPS) {
+                Ok(found) => {
+                    self.judge(STATEMENTS_SAMPLED, statement, found, marks.has(statement));
+                }
+                Err(_) => self.left += 1,
+            }
+        }
+    }
+
+    fn judge<Q: std::fmt::Debug, A: std::fmt::Debug + PartialEq>(
         &mut self,
         group: &'static str,
-        top_down: &TopDown,
-        statement: Statement,
-        expected: bool,
+        question: Q,
+        found: A,
+        expected: A,
     ) {
-        let Ok(answer) = top_down.stands(statement, STEPS) else {
-            self.left += 1;
-            return;
-        };
-        let fault = format!("{statement:?}: top-down {answer}, bottom-up {expected}");
-        self.checks.push(Check { group, fault: (answer != expected).then_some(fault) });
+        let fault = format!("{question:?}: {found:?}, by the listing {expected:?}");
+        self.checks.push(Check { group, fault: (found != expected).then_some(fault) });
     }
 }
 
 /// Some standing statements, the neighbours of their numbers, which differ in
 /// little, and some from anywhere.
-fn sample(book: &Book, random: &mut Random) -> Vec<Statement> {
+fn sample(marks: &Marks, random: &mut Random) -> Vec<Statement> {
     let all = (0..STATEMENTS).map(Statement::from_number);
-    let mut standing: Vec<Statement> = all.filter(|&s| book.marks.has(s)).collect();
+    let mut standing: Vec<Statement> = all.filter(|&s| marks.has(s)).collect();
     random.shuffle(&mut standing);
     standing.truncate(20);
     let mut numbers: Vec<usize> = standing.iter().map(|statement| statement.number()).collect();

@@ -8,6 +8,7 @@ use crate::write::*;
 
 pub fn cases(seed: u64) -> Vec<Case> {
     let mut cases = small_journals(seed);
+    cases.extend(waiting_journals(seed));
     cases.extend(narrow_journals(seed));
     cases.extend(middle_journals(seed));
     cases.extend(large_journals(seed));
@@ -19,45 +20,64 @@ pub fn cases(seed: u64) -> Vec<Case> {
     cases
 }
 
+const SMALL: &str = "small valid journals";
+const WAITING: &str = "journals that ask for what is awaited";
+const NARROW: &str = "narrow valid journals";
+const MIDDLE: &str = "middle-sized valid journals";
+const LARGE: &str = "several hundred entries and withdrawals";
+
+/// The groups of journals in which every record can be read.
+pub const VALID: [&str; 5] = [SMALL, WAITING, NARROW, MIDDLE, LARGE];
+
 /// Small valid journals; they also serve to compare the two evaluators.
 pub fn small_journals(seed: u64) -> Vec<Case> {
-    const GROUP: &str = "small valid journals";
-    let mut random = Random::new(seed, GROUP);
+    let mut random = Random::new(seed, SMALL);
     let mut make = |i: usize| {
         let members = random.between(1, 3);
         let records = random.between(1, 14);
-        Case::compared(GROUP, i.to_string(), journal(&mut random, members, records))
+        Case::compared(SMALL, i.to_string(), journal(&mut random, members, records))
     };
     (0..1_500).map(&mut make).collect()
+}
+
+/// Small valid journals that often ask for what provisional licences would
+/// give; they also serve to compare the two evaluators.
+pub fn waiting_journals(seed: u64) -> Vec<Case> {
+    let mut random = Random::new(seed, WAITING);
+    let mut make = |i: usize| {
+        let members = random.between(1, 4);
+        let records = random.between(4, 24);
+        let style = Style::random(&mut random, members);
+        let bytes = Generator::new(&mut random, style).waiting_journal(records);
+        Case::compared(WAITING, i.to_string(), bytes)
+    };
+    (0..400).map(&mut make).collect()
 }
 
 /// Longer journals over one to three members of each sort, in which much is
 /// said by several paths; they also serve to compare the two evaluators.
 pub fn narrow_journals(seed: u64) -> Vec<Case> {
-    const GROUP: &str = "narrow valid journals";
-    let mut random = Random::new(seed, GROUP);
+    let mut random = Random::new(seed, NARROW);
     let mut make = |i: usize| {
         let members = random.between(1, 3);
         let records = random.between(15, 30);
-        Case::compared(GROUP, i.to_string(), journal(&mut random, members, records))
+        Case::compared(NARROW, i.to_string(), journal(&mut random, members, records))
     };
     (0..400).map(&mut make).collect()
 }
 
 pub fn middle_journals(seed: u64) -> Vec<Case> {
-    const GROUP: &str = "middle-sized valid journals";
-    let mut random = Random::new(seed, GROUP);
+    let mut random = Random::new(seed, MIDDLE);
     let mut make = |i: usize| {
         let members = random.between(2, 16);
         let records = random.between(15, 70);
-        Case::compared(GROUP, i.to_string(), journal(&mut random, members, records))
+        Case::compared(MIDDLE, i.to_string(), journal(&mut random, members, records))
     };
     (0..400).map(&mut make).collect()
 }
 
 fn large_journals(seed: u64) -> Vec<Case> {
-    const GROUP: &str = "several hundred entries and withdrawals";
-    let mut random = Random::new(seed, GROUP);
+    let mut random = Random::new(seed, LARGE);
     let mut make = |i: usize| {
         let members = random.between(2, 16);
         let mut style = Style::random(&mut random, members);
@@ -65,7 +85,7 @@ fn large_journals(seed: u64) -> Vec<Case> {
         style.most_principal_variables = *random.choose(&[0, 1, 1, 2]);
         let records = random.between(200, 500);
         let bytes = Generator::new(&mut random, style).journal(records);
-        Case::compared(GROUP, i.to_string(), bytes)
+        Case::compared(LARGE, i.to_string(), bytes)
     };
     (0..24).map(&mut make).collect()
 }
@@ -91,7 +111,7 @@ fn loose_bytes(seed: u64) -> Vec<Case> {
     const LIKELY: [u8; 9] = [0, 0, 0, 1, 1, 2, 3, 0x80, 0x81];
     let mut random = Random::new(seed, GROUP);
     let mut make = |i: usize| {
-        let mut bytes = random.choose(&[b"TG", b"ST", b"LI", b"WD", b"QU"]).to_vec();
+        let mut bytes = random.choose(&[b"TG", b"ST", b"LI", b"WD", b"PL", b"CF", b"QU"]).to_vec();
         for _ in 0..random.below(40) {
             bytes.push(*random.choose(&LIKELY));
         }

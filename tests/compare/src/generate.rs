@@ -4,6 +4,8 @@ use crate::random::Random;
 use crate::write::*;
 
 const LAST_DEPTH: u8 = 4;
+/// How a grant without variables and conditions opens.
+const NO_CONDITIONS: [u8; 3] = [0; 3];
 
 /// How rich the grants of one journal are. Few principals, properties and
 /// packs make it likely that conditions meet what is said.
@@ -16,6 +18,8 @@ pub struct Style {
     most_conditions: u8,
     /// How many of hundred picks take a grant that was used before.
     pub reuse: usize,
+    /// Whether one of the principals may issue every grant from the start.
+    trusting: bool,
 }
 
 impl Style {
@@ -29,6 +33,7 @@ impl Style {
             resource_variables: random.percent(60),
             most_conditions: *random.choose(&[1, 2, 2, 3, 4]),
             reuse: *random.choose(&[50, 70, 85]),
+            trusting: random.percent(65),
         }
     }
 }
@@ -47,18 +52,21 @@ struct Written {
     depth: u8,
 }
 
-/// Makes records that refer to each other: grants are used again, and what
-/// was entered is later struck.
+/// Makes records that refer to each other: grants are used again, what was
+/// entered is later struck, and what was provisional is confirmed or withdrawn.
 pub struct Generator<'a> {
     random: &'a mut Random,
     style: Style,
     used: Vec<Written>,
     trusted: Vec<Bytes>,
     licences: Vec<(u8, Bytes)>,
+    provisional: Vec<(u8, Bytes)>,
+    /// Who may issue every grant, as long as nobody strikes that.
+    trustee: Option<u8>,
     /// Closed instances of conditions: who would have to say what.
     conditions: Vec<(u8, Bytes)>,
-    /// Closed instances of granted conclusions.
-    conclusions: Vec<Bytes>,
+    /// Grants with a closed instance of what each of them grants.
+    conclusions: Vec<(Bytes, Bytes)>,
 }
 
 /// The variables that the grant being written declares.
@@ -76,23 +84,48 @@ impl<'a> Generator<'a> {
             used: Vec::new(),
             trusted: Vec::new(),
             licences: Vec::new(),
+            provisional: Vec::new(),
+            trustee: None,
             conditions: Vec::new(),
             conclusions: Vec::new(),
         }
     }
 
     pub fn journal(&mut self, records: usize) -> Bytes {
-        (0..records).flat_map(|_| self.record()).collect()
+        let first = if self.style.trusting { self.trust_somebody() } else { self.record() };
+        let rest = (1..records).flat_map(|_| self.record());
+        first.into_iter().chain(rest).collect()
+    }
+
+    /// A journal that asks again and again for what the provisional licences
+    /// would give, from a start at which somebody may issue every grant.
+    pub fn waiting_journal(&mut self, records: usize) -> Bytes {
+        let mut journal = self.trust_somebody();
+        for _ in 0..records {
+            journal.extend(self.record());
+            for _ in 0..self.random.below(4).min(self.provisional.len()) {
+                journal.extend(query(&self.what_is_awaited()));
+            }
+        }
+        journal
     }
 
     fn record(&mut self) -> Bytes {
         match self.random.below(100) {
-            0..=21 => self.enter(),
-            22..=54 => self.issue_licence(),
-            55..=74 => self.query(),
-            75..=84 => self.strike(),
+            0..=17 => self.enter(),
+            18..=35 => self.issue_licence(),
+            36..=53 => self.enter_provisional(),
+            54..=76 => self.query(),
+            77..=82 => self.confirm(),
+            83..=89 => self.strike(),
             _ => self.withdraw(),
         }
+    }
+
+    fn trust_somebody(&mut self) -> Bytes {
+        let principal = self.named_principal();
+        self.trustee = Some(principal);
+        trust(&may_issue_all(principal))
     }
 
     fn enter(&mut self) -> Bytes {
@@ -101,13 +134,54 @@ impl<'a> Generator<'a> {
         trust(&grant)
     }
 
+    /// A licence; in one of ten cases one that was provisional before.
     fn issue_licence(&mut self) -> Bytes {
-        let (issuer, grant) = match self.conditions.is_empty() || self.random.percent(60) {
-            true => (self.named_principal(), self.grant().bytes),
-            false => self.what_meets_a_condition(),
+        let (issuer, grant) = match self.provisional.is_empty() || self.random.percent(90) {
+            true => self.new_licence(),
+            false => self.random.choose(&self.provisional).clone(),
         };
         self.licences.push((issuer, grant.clone()));
         licence(issuer, &grant)
+    }
+
+    /// A provisional licence; in one of ten cases one that was firm before, else
+    /// often one of a principal that may issue it.
+    fn enter_provisional(&mut self) -> Bytes {
+        let (issuer, grant) = match self.trustee {
+            _ if !self.licences.is_empty() && self.random.percent(10) => {
+                self.random.choose(&self.licences).clone()
+            }
+            Some(trustee) if self.random.percent(60) => (trustee, self.grant_or_plain()),
+            _ => self.new_licence(),
+        };
+        self.provisional.push((issuer, grant.clone()));
+        provisional(issuer, &grant)
+    }
+
+    /// Confirms a licence that was provisional, or any.
+    fn confirm(&mut self) -> Bytes {
+        if self.provisional.is_empty() || self.random.percent(12) {
+            return confirm(self.named_principal(), &self.grant().bytes);
+        }
+        let place = self.random.below(self.provisional.len());
+        let (issuer, grant) = self.provisional.swap_remove(place);
+        self.licences.push((issuer, grant.clone()));
+        confirm(issuer, &grant)
+    }
+
+    /// A grant, or one that gives a single conclusion without any condition.
+    fn grant_or_plain(&mut self) -> Bytes {
+        match self.conclusions.is_empty() || self.random.percent(40) {
+            true => self.grant().bytes,
+            false => plain(&self.random.choose(&self.conclusions).1),
+        }
+    }
+
+    fn new_licence(&mut self) -> (u8, Bytes) {
+        match self.conditions.is_empty() || self.random.percent(60) {
+            true => (self.named_principal(), self.grant().bytes),
+            false => self.what_meets_a_condition(),
+        }
     }
 
     fn strike(&mut self) -> Bytes {
@@ -119,11 +193,16 @@ impl<'a> Generator<'a> {
     }
 
     fn withdraw(&mut self) -> Bytes {
-        if self.licences.is_empty() || self.random.percent(12) {
+        let firm = self.random.below(self.licences.len() + self.provisional.len() + 1);
+        let list = match firm < self.licences.len() {
+            true => &mut self.licences,
+            false => &mut self.provisional,
+        };
+        if list.is_empty() || self.random.percent(12) {
             return withdraw(self.named_principal(), &self.grant().bytes);
         }
-        let place = self.random.below(self.licences.len());
-        let (issuer, grant) = self.licences.swap_remove(place);
+        let place = self.random.below(list.len());
+        let (issuer, grant) = list.swap_remove(place);
         withdraw(issuer, &grant)
     }
 
@@ -133,10 +212,36 @@ impl<'a> Generator<'a> {
         (*speaker, plain(conclusion))
     }
 
+    /// Asks for what a provisional licence would give, for what some grant gives,
+    /// or for anything.
     fn query(&mut self) -> Bytes {
-        match self.conclusions.is_empty() || self.random.percent(40) {
-            true => query(&self.closed_conclusion()),
-            false => query(self.random.choose::<Bytes>(&self.conclusions)),
+        match self.random.below(10) {
+            0..=2 => {}
+            3..=6 if !self.provisional.is_empty() => return query(&self.what_is_awaited()),
+            _ if !self.conclusions.is_empty() => {
+                return query(&self.random.choose(&self.conclusions).1);
+            }
+            _ => {}
+        }
+        query(&self.closed_conclusion())
+    }
+
+    /// What a provisional licence would give, rather one of the trustee's.
+    fn what_is_awaited(&mut self) -> Bytes {
+        let by_trustee = |held: &&(u8, Bytes)| Some(held.0) == self.trustee;
+        let of_trustee: Vec<&(u8, Bytes)> = self.provisional.iter().filter(by_trustee).collect();
+        let (_, grant) = match of_trustee.is_empty() || self.random.percent(25) {
+            true => self.random.choose(&self.provisional),
+            false => *self.random.choose(&of_trustee),
+        };
+        self.what_it_gives(grant)
+    }
+
+    /// A closed instance of what a grant grants.
+    fn what_it_gives(&self, grant: &[u8]) -> Bytes {
+        match self.conclusions.iter().find(|(known, _)| known == grant) {
+            Some((_, conclusion)) => conclusion.clone(),
+            None => grant[NO_CONDITIONS.len()..].to_vec(),
         }
     }
 
@@ -192,8 +297,8 @@ impl<'a> Generator<'a> {
         }
         let conclusion = self.conclusion(declared, depth - 1);
         let instance = self.close(&conclusion.bytes);
-        self.conclusions.push(instance);
         let bytes = for_all(declared.principals, declared.resource, &conditions, &conclusion.bytes);
+        self.conclusions.push((bytes.clone(), instance));
         Written { bytes, depth: 1 + deepest.max(conclusion.depth) }
     }
 
@@ -300,11 +405,13 @@ pub fn damage(random: &mut Random, journal: &mut Bytes) {
 pub fn any_record(random: &mut Random, grants: &[Bytes]) -> Bytes {
     let issuer = random.byte_below(4);
     let grant = random.choose(grants);
-    match random.below(8) {
+    match random.below(11) {
         0..=2 => trust(grant),
         3..=4 => licence(issuer, grant),
-        5 => strike(grant),
-        6 => withdraw(issuer, grant),
+        5..=6 => provisional(issuer, grant),
+        7 => strike(grant),
+        8 => withdraw(issuer, grant),
+        9 => confirm(issuer, grant),
         _ => query(&issue(issuer, grant)),
     }
 }

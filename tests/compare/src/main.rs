@@ -8,6 +8,7 @@ mod checks;
 mod circles;
 mod condition_order;
 mod conditions;
+mod countersignature;
 mod document000;
 mod document01;
 mod document02;
@@ -22,8 +23,10 @@ mod program;
 mod properties;
 mod random;
 mod report;
+mod signature_faults;
 mod tables;
 mod tally;
+mod without_provisional;
 mod write;
 
 use case::Case;
@@ -31,7 +34,7 @@ use program::Program;
 use reference::listing::listing;
 use report::Report;
 use std::process::ExitCode;
-use tally::Tally;
+use tally::{Tally, ENOUGH_OPEN};
 
 const SEED: u64 = 20_260_401;
 
@@ -65,6 +68,8 @@ fn all_cases(seed: u64) -> Vec<Case> {
     let mut cases = document01::cases();
     cases.extend(document02::cases());
     cases.extend(condition_order::cases(seed));
+    cases.extend(countersignature::cases());
+    cases.extend(signature_faults::cases());
     cases.extend(document000::cases());
     cases.extend(conditions::cases());
     cases.extend(circles::cases(seed));
@@ -78,10 +83,12 @@ fn all_cases(seed: u64) -> Vec<Case> {
 /// Journals on which the branch-wise lists stay short.
 fn small_cases(seed: u64) -> Vec<Case> {
     let mut cases = document01::cases();
+    cases.extend(countersignature::cases());
     cases.extend(document000::cases());
     cases.extend(conditions::cases());
     cases.extend(circles::circles());
     cases.extend(families::small_journals(seed));
+    cases.extend(families::waiting_journals(seed));
     cases.extend(families::narrow_journals(seed));
     cases
 }
@@ -91,12 +98,17 @@ fn check_program(program: &Program, cases: &[Case], seed: u64, report: &mut Repo
         let reference = listing(&case.journal);
         (checks::check(program, case, &reference, seed), reference)
     });
-    let mut tally = Tally::default();
+    let (mut tally, mut generated) = (Tally::default(), Tally::default());
     for (case, (checks, reference)) in cases.iter().zip(&results) {
         tally.add(case.expected_listing(reference));
+        if families::VALID.contains(&case.group) {
+            generated.add(case.expected_listing(reference));
+        }
         report.add(case, checks);
     }
     tally.print();
+    let all = Case::compared(ENOUGH_OPEN, "all of them".to_string(), Vec::new());
+    report.add(&all, &[generated.enough_open()]);
 }
 
 fn compare_marks(program: &Program, cases: &[Case], report: &mut Report) {

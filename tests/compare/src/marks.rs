@@ -1,24 +1,28 @@
 //! Each mark by itself. A journal is followed by records that show single
 //! marks, and the answers come from the reference's marks of the journal
-//! alone. A query shows a truth. What a speaker said is shown by a trusted
-//! grant, "for all x, the speaker said e(x) gives Property(k, x)" over a
-//! property that the journal leaves unused: its net of truths is how many x
-//! there are, queries of the property say which, and then it is struck.
+//! alone: those of its firm licences, and those with the provisional ones taken
+//! as firm. A query shows a truth: permitted where it is in both, open where it
+//! is in the second alone. What a speaker said is shown by a trusted grant, "for
+//! all x, the speaker said e(x) gives Property(k, x)" over a property that the
+//! journal leaves unused: its net of truths is how many x there are, queries of
+//! the property say which, and then it is struck.
 
 use crate::case::{nets, Case};
 use crate::checks::Check;
-use crate::families::{middle_journals, narrow_journals, small_journals};
+use crate::families::{middle_journals, narrow_journals, small_journals, waiting_journals};
 use crate::program::Program;
 use crate::properties::answers;
 use crate::write::*;
-use crate::{circles, conditions, document000, document01, tables};
+use crate::{circles, conditions, countersignature, document000, document01, tables};
+use reference::bottom_up::standing_statements;
 use reference::grant::{
     ConclusionTree, Grant, GrantTerm, PackTerm, PrincipalTerm, ResourceVariable,
 };
-use reference::listing::{listing, replay, Book, LONGEST_JOURNAL};
+use reference::listing::{listing, replay, Answer, Book, LONGEST_JOURNAL};
 use reference::reader::read_record;
 use reference::sorts::{
-    Claim, Conclusion, Said, Statement, CONCLUSIONS, GRANT_NUMBERS, PACKS, PRINCIPALS, PROPERTIES,
+    Claim, Conclusion, Marks, Said, Statement, CONCLUSIONS, GRANT_NUMBERS, PACKS, PRINCIPALS,
+    PROPERTIES,
 };
 
 pub const TRUTHS: &str = "every truth, asked by queries";
@@ -41,14 +45,17 @@ pub struct Shown {
 /// that have no record to read.
 pub fn journals(seed: u64) -> Vec<Case> {
     let mut cases = document01::cases();
+    cases.extend(countersignature::queries());
+    cases.extend(countersignature::circles().into_iter().step_by(6));
     cases.retain(|case| read_record(&case.journal).is_ok());
     cases.extend(document000::cases());
     cases.extend(conditions::cases());
     cases.extend(circles::cases(seed).into_iter().step_by(4));
     cases.extend(tables::full_tables());
-    cases.extend(small_journals(seed).into_iter().take(120));
-    cases.extend(narrow_journals(seed).into_iter().take(80));
-    cases.extend(middle_journals(seed).into_iter().take(80));
+    cases.extend(small_journals(seed).into_iter().take(80));
+    cases.extend(waiting_journals(seed).into_iter().take(60));
+    cases.extend(narrow_journals(seed).into_iter().take(70));
+    cases.extend(middle_journals(seed).into_iter().take(70));
     cases
 }
 
@@ -71,6 +78,8 @@ struct Known {
     journal: Bytes,
     answers: Vec<String>,
     book: Book,
+    /// The marks with the provisional licences taken as firm.
+    taken_as_firm: Marks,
     /// The grant of each of the 64 numbers; those from `given` on are fresh.
     grants: Vec<Bytes>,
     given: usize,
@@ -90,7 +99,8 @@ impl Known {
                 grants.push(grant);
             }
         }
-        Known { journal, answers, book, grants, given }
+        let taken_as_firm = standing_statements(&book.machine.all_firm());
+        Known { journal, answers, book, taken_as_firm, grants, given }
     }
 
     /// A property that no grant of the journal names.
@@ -99,12 +109,9 @@ impl Known {
         (0..PROPERTIES).rev().find(|property| !named.contains(property))
     }
 
-    fn is_true(&self, conclusion: Conclusion) -> bool {
-        self.book.marks.has(Statement::True(conclusion))
-    }
-
-    fn has_said(&self, speaker: u8, conclusion: Conclusion) -> bool {
-        self.book.marks.has(Statement::Said(Said { speaker, conclusion }))
+    /// Whether a statement stands with the firm licences, and with all.
+    fn stands(&self, statement: Statement) -> [bool; 2] {
+        [self.book.marks.has(statement), self.taken_as_firm.has(statement)]
     }
 
     /// A claim about a principal, as bytes.
@@ -158,7 +165,7 @@ impl Script {
 
     fn ask(&mut self, known: &Known, conclusion: Conclusion) {
         let written = known.written(conclusion.claim, conclusion.principal);
-        self.add(query(&written), queried(known.is_true(conclusion)));
+        self.add(query(&written), queried(known.stands(Statement::True(conclusion))));
     }
 
     /// Runs the program; says at which record its answers differ, if they do.
@@ -193,8 +200,8 @@ impl Script {
     }
 }
 
-fn queried(permitted: bool) -> String {
-    if permitted { "QU permitted" } else { "QU not permitted" }.to_string()
+fn queried(stands: [bool; 2]) -> String {
+    format!("QU {}", Answer::of(&stands).words())
 }
 
 /// A query of each of the 2,304 conclusions. Numbers that the journal did not
@@ -249,19 +256,28 @@ struct Probe {
 }
 
 impl Probe {
+    /// Whether the speaker said one of the claims of a principal, with the firm
+    /// licences and with all.
+    fn has_said(&self, known: &Known, principal: u8) -> [bool; 2] {
+        let mut said = [false; 2];
+        for &claim in &self.claims {
+            let conclusion = Conclusion { principal, claim };
+            let statement = Statement::Said(Said { speaker: self.speaker, conclusion });
+            let [firm, all] = known.stands(statement);
+            said = [said[0] || firm, said[1] || all];
+        }
+        said
+    }
+
     fn add_to(&self, script: &mut Script, known: &Known, shown: u8) {
-        let has_said = |principal: u8| {
-            let mut claims = self.claims.iter();
-            claims.any(|&claim| known.has_said(self.speaker, Conclusion { principal, claim }))
-        };
-        let count = (0..PRINCIPALS).filter(|&p| has_said(p)).count() as i32;
+        let said_of: Vec<[bool; 2]> = (0..PRINCIPALS).map(|p| self.has_said(known, p)).collect();
+        let count = said_of.iter().filter(|said| said[0]).count() as i32;
         let condition = said(self.speaker, &self.said);
         let probe = for_all(1, self.resource, &[condition], &property(shown, X));
         script.add(trust(&probe), nets("TG", count, 0));
-        if count > 0 {
-            for principal in 0..PRINCIPALS {
-                let answer = queried(has_said(principal));
-                script.add(query(&property(shown, principal)), answer);
+        if said_of.iter().any(|said| said[1]) {
+            for (principal, &said) in (0..PRINCIPALS).zip(&said_of) {
+                script.add(query(&property(shown, principal)), queried(said));
             }
         }
         script.add(strike(&probe), nets("ST", -count, 0));

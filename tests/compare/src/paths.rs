@@ -24,11 +24,15 @@ fn naming_each_other(seed: u64) -> Vec<Case> {
         let mut records: Vec<Bytes> = Vec::new();
         for grant in &grants {
             let issuers = random.between(1, 5);
-            (0..issuers).for_each(|_| records.push(licence(random.byte_below(16), grant)));
+            for _ in 0..issuers {
+                let issuer = random.byte_below(16);
+                records.push(random.licence(25, issuer, grant));
+            }
         }
         for _ in 0..random.between(1, 4) {
             let feed = plain(&property(random.byte_below(4), random.byte_below(16)));
-            records.push(licence(random.byte_below(16), &feed));
+            let issuer = random.byte_below(16);
+            records.push(random.licence(25, issuer, &feed));
             records.push(trust(&may_issue_all(random.byte_below(16))));
         }
         random.shuffle(&mut records);
@@ -56,7 +60,7 @@ fn naming(random: &mut Random) -> Bytes {
     for_all(variables, NO_RESOURCE, &conditions, &about(random))
 }
 
-/// The record that takes back what a TG or LI record entered.
+/// The record that takes back what a TG, LI or PL record entered.
 fn removal(record: &[u8]) -> Bytes {
     match &record[..2] {
         b"TG" => strike(&record[2..]),
@@ -108,7 +112,7 @@ fn second_paths(seed: u64) -> Vec<Case> {
     cases
 }
 
-/// Some of the ways to one conclusion.
+/// Some of the ways to one conclusion, in half of the lists some provisional.
 fn paths_to(random: &mut Random, conclusion: &[u8]) -> Vec<Bytes> {
     let right = plain(conclusion);
     let wide = for_all(1, OVER_PACKS, &[], &run(X, ANY_PACK));
@@ -130,7 +134,12 @@ fn paths_to(random: &mut Random, conclusion: &[u8]) -> Vec<Bytes> {
         licence(4, &right),
         licence(1, &by_word),
     ];
-    records.into_iter().filter(|_| random.percent(70)).collect()
+    let share = *random.choose(&[0, 40]);
+    let mut some: Vec<Bytes> = records.into_iter().filter(|_| random.percent(70)).collect();
+    for record in some.iter_mut().filter(|record| record.starts_with(b"LI")) {
+        *record = random.licence(share, record[2], &record[3..]);
+    }
+    some
 }
 
 /// The same grant entered again, renamed variables, unused variables, and

@@ -28,8 +28,8 @@ fn without_number(line: &str) -> &str {
 
 /// Line numbers count from 1 and the last line has their count. The nets of
 /// truths add up to the truths standing, those of sayings to the sayings, and
-/// all of them to the marks. An entry loses nothing of either kind, and a
-/// removal gains nothing.
+/// all of them to the marks. An entry and a confirmation lose nothing of either
+/// kind, a removal gains nothing, and a provisional licence changes nothing.
 pub fn sums_and_signs(listing: &str, standing: Count) -> Result<(), String> {
     let last = last_line(listing)?;
     let lines: Vec<&str> = listing.lines().collect();
@@ -74,7 +74,9 @@ fn last_line(listing: &str) -> Result<LastLine, String> {
 /// The nets of one answer; 0 for a query and a refusal.
 fn signed_nets(answer: &str) -> Result<Pair, String> {
     match answer.split_once(' ') {
-        Some(("TG" | "LI", nets)) => match parse_nets(nets)? {
+        Some(("PL", "+0 +0")) => Ok(Pair { truths: 0, sayings: 0 }),
+        Some(("PL", _)) => Err("a provisional licence changes marks".to_string()),
+        Some(("TG" | "LI" | "CF", nets)) => match parse_nets(nets)? {
             nets if nets.truths < 0 => Err("an entry loses truths".to_string()),
             nets if nets.sayings < 0 => Err("an entry loses sayings".to_string()),
             nets => Ok(nets),
@@ -84,7 +86,7 @@ fn signed_nets(answer: &str) -> Result<Pair, String> {
             nets if nets.sayings > 0 => Err("a removal gains sayings".to_string()),
             nets => Ok(nets),
         },
-        Some(("QU", "permitted" | "not permitted"))
+        Some(("QU", "permitted" | "not permitted" | "open"))
         | Some(("refused", "1" | "2" | "3" | "4" | "5" | "6" | "7")) => {
             Ok(Pair { truths: 0, sayings: 0 })
         }

@@ -1,5 +1,7 @@
 //! A small generator of repeatable random numbers (SplitMix64).
 
+use crate::write::{licence, provisional, Bytes};
+
 #[derive(Clone)]
 pub struct Random {
     state: u64,
@@ -44,6 +46,14 @@ impl Random {
 
     pub fn choose<'a, T>(&mut self, list: &'a [T]) -> &'a T {
         &list[self.below(list.len())]
+    }
+
+    /// A licence, in the given share of hundred a provisional one.
+    pub fn licence(&mut self, provisionally: usize, issuer: u8, grant: &[u8]) -> Bytes {
+        match self.percent(provisionally) {
+            true => provisional(issuer, grant),
+            false => licence(issuer, grant),
+        }
     }
 
     pub fn shuffle<T>(&mut self, list: &mut [T]) {

@@ -25,9 +25,10 @@ fn nested_grants(seed: u64) -> Vec<Case> {
             let depth = *random.choose(&[1, 2, 3, 3, 4, 4, 5, 6]);
             let grant = nested(&mut random, depth);
             let issuer = random.byte_below(3);
-            journal.extend(match random.below(4) {
+            journal.extend(match random.below(5) {
                 0 => trust(&grant),
                 1 => licence(issuer, &grant),
+                3 => [provisional(issuer, &grant), confirm(issuer, &grant)].concat(),
                 2 => query(&issue(issuer, &grant)),
                 _ => [trust(&plain(&issue(issuer, &grant))), licence(issuer, &grant)].concat(),
             });

@@ -75,6 +75,16 @@ pub fn withdraw(issuer: u8, grant: &[u8]) -> Bytes {
     [b"WD", [issuer].as_slice(), grant].concat()
 }
 
+/// Enters a provisional licence.
+pub fn provisional(issuer: u8, grant: &[u8]) -> Bytes {
+    [b"PL", [issuer].as_slice(), grant].concat()
+}
+
+/// Makes a provisional licence firm.
+pub fn confirm(issuer: u8, grant: &[u8]) -> Bytes {
+    [b"CF", [issuer].as_slice(), grant].concat()
+}
+
 pub fn query(conclusion: &[u8]) -> Bytes {
     [b"QU", conclusion].concat()
 }

@@ -4,7 +4,7 @@ use crate::bottom_up::standing_statements;
 use crate::machine::Machine;
 use crate::numbered::closed_conclusion;
 use crate::reader::{read_record, Record, Refusal};
-use crate::sorts::{Count, Marks, Statement};
+use crate::sorts::{Conclusion, Count, Marks, Statement};
 
 pub const LONGEST_JOURNAL: usize = 65_536;
 
@@ -12,8 +12,39 @@ pub const LONGEST_JOURNAL: usize = 65_536;
 #[derive(Clone, Copy, Debug, PartialEq, Eq)]
 pub enum Outcome {
     Changed { letters: &'static str, nets: Nets },
-    Queried { permitted: bool },
+    Queried(Answer),
     Refused(Refusal),
+}
+
+/// The answer to a query, over the choices of which provisional licences
+/// become firm.
+#[derive(Clone, Copy, Debug, PartialEq, Eq)]
+pub enum Answer {
+    /// The conclusion stands under every choice.
+    Permitted,
+    /// It stands under none.
+    NotPermitted,
+    /// It stands under some choices and not under others.
+    Open,
+}
+
+impl Answer {
+    /// The answer from whether the conclusion stands under each choice.
+    pub fn of(stands: &[bool]) -> Answer {
+        match (stands.contains(&true), stands.contains(&false)) {
+            (true, true) => Answer::Open,
+            (true, false) => Answer::Permitted,
+            _ => Answer::NotPermitted,
+        }
+    }
+
+    pub fn words(self) -> &'static str {
+        match self {
+            Answer::Permitted => "permitted",
+            Answer::NotPermitted => "not permitted",
+            Answer::Open => "open",
+        }
+    }
 }
 
 /// Gained less lost, of truths and of sayings.
@@ -41,15 +72,17 @@ pub struct Entry {
     pub outcome: Outcome,
 }
 
-/// The book while a journal is read: the plain machine and its marks.
+/// The book while a journal is read: the plain machine, the marks of its firm
+/// licences, and the marks under each choice, worked out when they are asked for.
 pub struct Book {
     pub machine: Machine,
     pub marks: Marks,
+    under_choices: Option<Vec<Marks>>,
 }
 
 impl Book {
     pub fn fresh() -> Book {
-        Book { machine: Machine::default(), marks: Marks::none() }
+        Book { machine: Machine::default(), marks: Marks::none(), under_choices: None }
     }
 
     pub fn call(&mut self, record: &Record) -> Outcome {
@@ -58,19 +91,28 @@ impl Book {
         }
         match record {
             Record::Query(tree) => {
-                let conclusion = closed_conclusion(&self.machine, tree);
-                Outcome::Queried { permitted: self.marks.has(Statement::True(conclusion)) }
+                Outcome::Queried(self.answer(closed_conclusion(&self.machine, tree)))
             }
             _ => Outcome::Changed { letters: record.letters(), nets: self.work_out_marks() },
         }
     }
 
-    /// Works the marks out anew; gives the gained less the lost.
+    /// Whether a conclusion stands under every choice, under some or under none.
+    pub fn answer(&mut self, conclusion: Conclusion) -> Answer {
+        let machine = &self.machine;
+        let worked_out = || machine.choices().iter().map(standing_statements).collect();
+        let under_choices = self.under_choices.get_or_insert_with(worked_out);
+        let stands = |marks: &Marks| marks.has(Statement::True(conclusion));
+        Answer::of(&under_choices.iter().map(stands).collect::<Vec<bool>>())
+    }
+
+    /// Works the marks of the firm licences out anew; gives the gained less the lost.
     fn work_out_marks(&mut self) -> Nets {
         let marks = standing_statements(&self.machine);
         let gained = marks.beyond(&self.marks);
         let lost = self.marks.beyond(&marks);
         self.marks = marks;
+        self.under_choices = None;
         Nets::of(gained, lost)
     }
 }
@@ -122,8 +164,7 @@ fn outcome_words(outcome: Outcome) -> String {
         Outcome::Changed { letters, nets: Nets { truths, sayings } } => {
             format!("{letters} {truths:+} {sayings:+}")
         }
-        Outcome::Queried { permitted: true } => "QU permitted".to_string(),
-        Outcome::Queried { permitted: false } => "QU not permitted".to_string(),
+        Outcome::Queried(answer) => format!("QU {}", answer.words()),
         Outcome::Refused(refusal) => format!("refused {}", refusal.number()),
     }
 }

@@ -1,15 +1,25 @@
-//! The plain machine: T, L and N as lists of written grants.
+//! The plain machine: T, L, the provisional licences and N as lists of
+//! written grants; and the machines under each choice of which provisional
+//! licences become firm.
 
 use crate::grant::{ConclusionTree, Grant};
 use crate::reader::{Record, Refusal};
 use crate::sorts::GRANT_NUMBERS;
 
-/// T, the trusted grants; L, pairs of issuer and grant; N, the grants that
-/// have a number, each at the place that is its number.
+/// With at most so many provisional licences every choice is taken, 2 to the
+/// power of their number.
+pub const MOST_CHOSEN: usize = 6;
+
+type Licence = (u8, Grant);
+
+/// T, the trusted grants; L, the firm licences, pairs of issuer and grant; the
+/// provisional ones, none of which is in L; N, the grants that have a number,
+/// each at the place that is its number.
 #[derive(Clone, Default)]
 pub struct Machine {
     pub trusted: Vec<Grant>,
-    pub licences: Vec<(u8, Grant)>,
+    pub licences: Vec<Licence>,
+    pub provisional: Vec<Licence>,
     pub numbered: Vec<Grant>,
 }
 
@@ -19,7 +29,7 @@ impl Machine {
         self.numbered.iter().position(|known| known == grant).map(|place| place as u8)
     }
 
-    /// Accepts a record and changes T, L and N, or refuses it and changes nothing.
+    /// Accepts a record and changes the lists, or refuses it and changes nothing.
     pub fn feed(&mut self, record: &Record) -> Result<(), Refusal> {
         match record {
             Record::EnterTrusted(grant) => {
@@ -29,15 +39,68 @@ impl Machine {
             }
             Record::IssueLicence(issuer, grant) => {
                 self.give_numbers(self.new_in_grant(grant))?;
-                add_once(&mut self.licences, (*issuer, grant.clone()));
+                self.make_firm((*issuer, grant.clone()));
+                Ok(())
+            }
+            Record::EnterProvisional(issuer, grant) => {
+                self.give_numbers(self.new_in_grant(grant))?;
+                self.enter_provisional((*issuer, grant.clone()));
                 Ok(())
             }
             Record::Query(conclusion) => self.give_numbers(self.new_in_conclusion(conclusion)),
             Record::StrikeTrusted(grant) => remove(&mut self.trusted, grant),
-            Record::WithdrawLicence(issuer, grant) => {
-                remove(&mut self.licences, &(*issuer, grant.clone()))
-            }
+            Record::WithdrawLicence(issuer, grant) => self.withdraw(&(*issuer, grant.clone())),
+            Record::Confirm(issuer, grant) => self.confirm((*issuer, grant.clone())),
         }
+    }
+
+    /// A licence that was provisional is so no longer.
+    fn make_firm(&mut self, licence: Licence) {
+        self.provisional.retain(|held| *held != licence);
+        add_once(&mut self.licences, licence);
+    }
+
+    /// A firm licence stays firm.
+    fn enter_provisional(&mut self, licence: Licence) {
+        if !self.licences.contains(&licence) {
+            add_once(&mut self.provisional, licence);
+        }
+    }
+
+    fn confirm(&mut self, licence: Licence) -> Result<(), Refusal> {
+        remove(&mut self.provisional, &licence)?;
+        self.licences.push(licence);
+        Ok(())
+    }
+
+    /// Removes a licence of either kind; it is never of both.
+    fn withdraw(&mut self, licence: &Licence) -> Result<(), Refusal> {
+        remove(&mut self.licences, licence).or_else(|_| remove(&mut self.provisional, licence))
+    }
+
+    /// The machines in which some of the provisional licences have become firm
+    /// and the others are gone: one for every choice where there are few. Where
+    /// there are many, only those of none and of all: no rule asks that something
+    /// be not said, so a statement that stands with some licences stands with
+    /// more, and what stands under every choice or under none is seen there.
+    pub fn choices(&self) -> Vec<Machine> {
+        let count = self.provisional.len();
+        match count <= MOST_CHOSEN {
+            true => (0..1 << count).map(|taken| self.chosen(|i| taken >> i & 1 == 1)).collect(),
+            false => vec![self.chosen(|_| false), self.all_firm()],
+        }
+    }
+
+    /// The machine with all provisional licences taken as firm.
+    pub fn all_firm(&self) -> Machine {
+        self.chosen(|_| true)
+    }
+
+    fn chosen(&self, takes: impl Fn(usize) -> bool) -> Machine {
+        let mut machine = Machine { provisional: Vec::new(), ..self.clone() };
+        let places = self.provisional.iter().enumerate();
+        machine.licences.extend(places.filter(|&(i, _)| takes(i)).map(|(_, held)| held.clone()));
+        machine
     }
 
     fn give_numbers(&mut self, new: Vec<Grant>) -> Result<(), Refusal> {

@@ -39,6 +39,8 @@ pub enum Record {
     StrikeTrusted(Grant),
     IssueLicence(u8, Grant),
     WithdrawLicence(u8, Grant),
+    EnterProvisional(u8, Grant),
+    Confirm(u8, Grant),
     Query(ConclusionTree),
 }
 
@@ -49,6 +51,8 @@ impl Record {
             Record::StrikeTrusted(_) => "ST",
             Record::IssueLicence(..) => "LI",
             Record::WithdrawLicence(..) => "WD",
+            Record::EnterProvisional(..) => "PL",
+            Record::Confirm(..) => "CF",
             Record::Query(_) => "QU",
         }
     }
@@ -61,6 +65,10 @@ impl Record {
             Record::WithdrawLicence(issuer, grant) => {
                 Record::WithdrawLicence(*issuer, grant.ordered())
             }
+            Record::EnterProvisional(issuer, grant) => {
+                Record::EnterProvisional(*issuer, grant.ordered())
+            }
+            Record::Confirm(issuer, grant) => Record::Confirm(*issuer, grant.ordered()),
             Record::Query(conclusion) => Record::Query(conclusion.ordered()),
         }
     }
@@ -109,6 +117,8 @@ impl Reader<'_> {
             b"ST" => Ok(Record::StrikeTrusted(self.grant(1)?)),
             b"LI" => Ok(Record::IssueLicence(self.byte_up_to(0x0F)?, self.grant(1)?)),
             b"WD" => Ok(Record::WithdrawLicence(self.byte_up_to(0x0F)?, self.grant(1)?)),
+            b"PL" => Ok(Record::EnterProvisional(self.byte_up_to(0x0F)?, self.grant(1)?)),
+            b"CF" => Ok(Record::Confirm(self.byte_up_to(0x0F)?, self.grant(1)?)),
             b"QU" => Ok(Record::Query(self.conclusion(NOTHING_DECLARED, 0)?)),
             _ => Err(Refusal::UnknownLetters),
         }
