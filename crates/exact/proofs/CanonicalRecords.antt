@@ -6,7 +6,7 @@ use native.Mathlib.Omega.{arith}
 use lib.ListN.{length, length-append}
 use Rattle.sorts.specs.declared.Status.the-variants.{Trusted, Issued, Provisional}
 use Rattle.ranges.specs.Bytes.{Outcome, got, refused, andThen}
-use Rattle.reader.specs.Records.{Record, enter, remove, confirm, query, readRecord, lettersOf, canonRecord, readCanonical}
+use Rattle.reader.specs.Records.{Record, enter, remove, confirm, preview, query, readRecord, lettersOf, canonRecord, readCanonical}
 use Rattle.exact.specs.Writing.{kindOf, writtenStatus, contentOf, writtenRecord, AllowedRecord}
 use Rattle.exact.proofs.Exact.{record-read, record-exact}
 use Rattle.rows.specs.Written.{Grant, written}
@@ -19,12 +19,14 @@ abbrev pub CanonicalRecord : Record → Type 0
 CanonicalRecord (enter by g) = Canonical g
 CanonicalRecord (remove by g) = Canonical g
 CanonicalRecord (confirm p g) = Canonical g
+CanonicalRecord (preview p g) = Canonical g
 CanonicalRecord (query c) = CanonicalConcl c
 
 pub record-canonical : (r : Record) → CanonicalRecord (canonRecord r)
 record-canonical (enter by g) = canon-canonical g
 record-canonical (remove by g) = canon-canonical g
 record-canonical (confirm p g) = canon-canonical g
+record-canonical (preview p g) = canon-canonical g
 record-canonical (query c) = concl-canonical c
 
 -- a record in form is its own form
@@ -32,6 +34,7 @@ pub record-own : (r : Record) → CanonicalRecord r → canonRecord r ≡ r
 record-own (enter by g) h = ap (enter by) (canonical-own g h)
 record-own (remove by g) h = ap (remove by) (canonical-own g h)
 record-own (confirm p g) h = ap (confirm p) (canonical-own g h)
+record-own (preview p g) h = ap (preview p) (canonical-own g h)
 record-own (query c) h = ap query (concl-own c h)
 
 pub record-twice : (r : Record) → canonRecord (canonRecord r) ≡ canonRecord r
@@ -45,6 +48,7 @@ record-kind (remove Trusted g) = refl
 record-kind (remove (Issued p) g) = refl
 record-kind (remove (Provisional p) g) = refl
 record-kind (confirm p g) = refl
+record-kind (preview p g) = refl
 record-kind (query c) = refl
 
 -- what can be read can be read in form
@@ -53,6 +57,7 @@ unfolding AllowedRecord
 record-allowed (enter by g) a = (a .0, size.canon-allowed g (a .1), rw size.canon-depth (a .2))
 record-allowed (remove by g) a = (a .0, size.canon-allowed g (a .1), rw size.canon-depth (a .2))
 record-allowed (confirm p g) a = (a .0, size.canon-allowed g (a .1), rw size.canon-depth (a .2))
+record-allowed (preview p g) a = (a .0, size.canon-allowed g (a .1), rw size.canon-depth (a .2))
 record-allowed (query c) a = (size.concl-allowed c 0 0 (a .0), rw size.concl-depth (a .1))
 
 -- it has no more bytes
@@ -63,6 +68,7 @@ content-shorter : (r : Record) → length (contentOf (canonRecord r)) ≤ length
 content-shorter (enter by g) = after-status (writtenStatus by) g
 content-shorter (remove by g) = after-status (writtenStatus by) g
 content-shorter (confirm p g) = after-status (writtenStatus (Provisional p)) g
+content-shorter (preview p g) = after-status (writtenStatus (Issued p)) g
 content-shorter (query c) = size.concl-length c
 
 pub record-shorter : (r : Record) → length (writtenRecord (canonRecord r)) ≤ length (writtenRecord r)

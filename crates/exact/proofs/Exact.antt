@@ -11,11 +11,11 @@ use Rattle.rows.specs.Written.{Grant, grant, written}
 use Rattle.rows.specs.Form.{depth}
 use Rattle.rows.specs.Allowed.{Allowed}
 use Rattle.reader.specs.declared.records.Kind.{Kind}
-use Rattle.reader.specs.declared.records.Kind.the-variants.{Tg, St, Li, Wd, Qu, Pl, Cf}
+use Rattle.reader.specs.declared.records.Kind.the-variants.{Tg, St, Li, Wd, Qu, Pl, Cf, Pv}
 use Rattle.ranges.specs.Bytes.{got}
 use Rattle.grants.specs.Grants.{readGrant}
 use Rattle.exact.specs.Writing.{kindOf, contentOf, writtenRecord, AllowedRecord}
-use Rattle.reader.specs.Records.{Record, enter, remove, confirm, query, lettersOf, kinds, kindWith, readMark, readEntry, readLicence, nothingDeclared, readQuery, readContent, readRecord}
+use Rattle.reader.specs.Records.{Record, enter, remove, confirm, preview, query, lettersOf, kinds, kindWith, readMark, readEntry, readLicence, nothingDeclared, readQuery, readContent, readRecord}
 use Rattle.grants.proofs.Spelled.{Spelled, spelled-take, spelled-fits, join, part, between}
 use Rattle.grants.proofs.Gives.{Gives, done, after}
 use Rattle.exact.proofs.Letters.{first, second, two-letters, mark-found}
@@ -32,6 +32,7 @@ kind-again Wd n = refl
 kind-again Qu n = refl
 kind-again Pl n = refl
 kind-again Cf n = refl
+kind-again Pv n = refl
 
 -- a kind whose letters stand at the start is read
 mark-reads : (s : List ℕ) (k : Kind) (n : ℕ) → Spelled s 0 (lettersOf k) n → readMark s ≡ got k n
@@ -72,6 +73,7 @@ module _ (s : List ℕ) where
   content-found Wd at x = licence-found (λ p. remove (Issued p)) (lettersOf Wd) at x (λ p g l i d. (l, i, d)) (λ p g. refl)
   content-found Pl at x = licence-found (λ p. enter (Provisional p)) (lettersOf Pl) at x (λ p g l i d. (l, i, d)) (λ p g. refl)
   content-found Cf at x = licence-found confirm (lettersOf Cf) at x (λ p g l i d. (l, i, d)) (λ p g. refl)
+  content-found Pv at x = licence-found preview (lettersOf Pv) at x (λ p g l i d. (l, i, d)) (λ p g. refl)
   content-found Qu at x =
       after _ _ _ _ (concl-found depths s (readGrant depths s) (grant-found depths s) nothingDeclared at) (λ c n f.
       done _ _ _ (record { allowed = (f .allowed, f .deep); spelled = join x (f .spelled) }))
@@ -104,6 +106,7 @@ module _ (s : List ℕ) where
   content-reads (enter (Provisional p) g) at n a x = licence-reads (λ q. enter (Provisional q)) p g at n (a .0) (a .1) (a .2) x
   content-reads (remove (Provisional p) g) at n a x = absurd (a .0)
   content-reads (confirm p g) at n a x = licence-reads confirm p g at n (a .0) (a .1) (a .2) x
+  content-reads (preview p g) at n a x = licence-reads preview p g at n (a .0) (a .1) (a .2) x
   content-reads (query c) at n a x = rw (concl-reads depths s (readGrant depths s) (grant-reads depths s) nothingDeclared c at n (a .0) (a .1) x)
 
   -- an allowed record that is spelled is read

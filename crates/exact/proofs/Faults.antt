@@ -16,10 +16,10 @@ use Rattle.sorts.specs.Numbers.{depths, conditions, packs, principals, properti
 use Rattle.rows.specs.Written.{Grant, Conds, Concl}
 use Rattle.ranges.specs.declared.Scope.{Scope}
 use Rattle.reader.specs.declared.records.Kind.{Kind}
-use Rattle.reader.specs.declared.records.Kind.the-variants.{Tg, St, Li, Wd, Qu, Pl, Cf}
+use Rattle.reader.specs.declared.records.Kind.the-variants.{Tg, St, Li, Wd, Qu, Pl, Cf, Pv}
 use Rattle.ranges.specs.Bytes.{Outcome, got, refused, andThen, byteAt, upto, declared, principal, pack, tag, Header, header}
 use Rattle.grants.specs.Grants.{readProperty, readPacked, readIssue, readConcl, readConds, readWith, readGrant}
-use Rattle.reader.specs.Records.{Record, enter, remove, confirm, lettersOf, kinds, opens, kindWith, readMark, readEntry, readLicence, nothingDeclared, readQuery, readContent, readRecord}
+use Rattle.reader.specs.Records.{Record, enter, remove, confirm, preview, lettersOf, kinds, opens, kindWith, readMark, readEntry, readLicence, nothingDeclared, readQuery, readContent, readRecord}
 
 -- What is found in c, and in c with the bytes b and y after it. Where c is too short and FF FF follows, which fits nowhere,
 -- another fault is found.
@@ -177,6 +177,7 @@ module _ (c : List ℕ) (b : ℕ) (y : List ℕ) where
   content-alike Wd at h = licence-alike (λ p. remove (Issued p)) at h
   content-alike Pl at h = licence-alike (λ p. enter (Provisional p)) at h
   content-alike Cf at h = licence-alike confirm at h
+  content-alike Pv at h = licence-alike preview at h
   content-alike Qu at h = query-alike at h
 
   kind-alike : (ks : List Kind) (m z n : ℕ) → n ≤ length c → Alike c b y Kind (kindWith ks m z n) (kindWith ks m z n)
@@ -193,6 +194,7 @@ no-letter Wd = refl
 no-letter Qu = refl
 no-letter Pl = refl
 no-letter Cf = refl
+no-letter Pv = refl
 
 no-mark : (ks : List Kind) (a n : ℕ) → kindWith ks a 255 n ≡ refused 2
 unfolding kindWith

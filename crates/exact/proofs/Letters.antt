@@ -8,7 +8,7 @@ use lib.ListN.{getD, take}
 use lib.Dec.{eqb}
 use borrow.Author.Tests.{eqb-true}
 use Rattle.reader.specs.declared.records.Kind.{Kind}
-use Rattle.reader.specs.declared.records.Kind.the-variants.{Tg, St, Li, Wd, Qu, Pl, Cf}
+use Rattle.reader.specs.declared.records.Kind.the-variants.{Tg, St, Li, Wd, Qu, Pl, Cf, Pv}
 use Rattle.reader.specs.declared.records.MarkOut.the-variants as mark
 use Rattle.ranges.specs.Bytes.{got}
 use Rattle.reader.specs.Records.{lettersOf, kinds, opens, kindWith, readMark}
@@ -31,6 +31,7 @@ two-letters Wd = refl
 two-letters Qu = refl
 two-letters Pl = refl
 two-letters Cf = refl
+two-letters Pv = refl
 
 -- a kind that two letters open has them
 letters-are : (k : Kind) (a b : ℕ) → opens k a b ≡ true → a ∷ b ∷ [] ≡ lettersOf k

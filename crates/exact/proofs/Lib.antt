@@ -1,4 +1,5 @@
 pub mod CanonicalRecords
+pub mod Content
 pub mod Exact
 pub mod Examples
 pub mod Faults

@@ -9,8 +9,8 @@ use Rattle.rows.specs.Written.{written, writtenConcl}
 use Rattle.rows.specs.Form.{depth, depthConcl}
 use Rattle.rows.specs.Allowed.{Allowed, AllowedConcl}
 use Rattle.reader.specs.declared.records.Kind.{Kind}
-use Rattle.reader.specs.declared.records.Kind.the-variants.{Tg, St, Li, Wd, Qu, Pl, Cf}
-use Rattle.reader.specs.Records.{Record, enter, remove, confirm, query, lettersOf}
+use Rattle.reader.specs.declared.records.Kind.the-variants.{Tg, St, Li, Wd, Qu, Pl, Cf, Pv}
+use Rattle.reader.specs.Records.{Record, enter, remove, confirm, preview, query, lettersOf}
 
 -- "TG enters a trusted grant, ST strikes it"; "LI issues a licence, WD withdraws it"; "QU queries". Document 02, 5: "Record PL enters a
 -- provisional licence in the form of LI; CF, in the form of WD, makes a provisional one firm. WD removes either kind."
@@ -22,6 +22,7 @@ kindOf (remove (Issued p) g) = Wd
 kindOf (enter (Provisional p) g) = Pl
 kindOf (remove (Provisional p) g) = Wd
 kindOf (confirm p g) = Cf
+kindOf (preview p g) = Pv
 kindOf (query c) = Qu
 
 -- What follows the mark: of a licence "an issuer byte 00 to 0F, then a grant"; of a trusted grant the grant.
@@ -34,6 +35,7 @@ abbrev pub contentOf : Record → List ℕ
 contentOf (enter by g) = writtenStatus by ++ written g
 contentOf (remove by g) = writtenStatus by ++ written g
 contentOf (confirm p g) = writtenStatus (Provisional p) ++ written g
+contentOf (preview p g) = writtenStatus (Issued p) ++ written g
 contentOf (query c) = writtenConcl c
 
 -- The bytes of a record: "Each opens with two letters in ASCII."
@@ -46,4 +48,5 @@ unfoldable pub AllowedRecord : Record → Type 0
 AllowedRecord (enter by g) = StatusRange by × Allowed g × (depth g ≤ depths)
 AllowedRecord (remove by g) = FirmRange by × Allowed g × (depth g ≤ depths)
 AllowedRecord (confirm p g) = StatusRange (Provisional p) × Allowed g × (depth g ≤ depths)
+AllowedRecord (preview p g) = StatusRange (Issued p) × Allowed g × (depth g ≤ depths)
 AllowedRecord (query c) = AllowedConcl 0 0 c × (depthConcl c ≤ depths)

@@ -43,7 +43,7 @@ use Rattle.reader.specs.declared.records.Found.the-variants.{Asks, Full,
 use Rattle.reader.specs.declared.records.Reading.{Reading}
 use Rattle.ranges.specs.Bytes.{Outcome, got, refused, andThen, upto}
 use Rattle.grants.specs.Grants.{readGrant, readConcl}
-use Rattle.reader.specs.Records.{Record, enter, remove, confirm, query, readMark, readEntry, readLicence, readQuery, readContent, readRecord, nothingDeclared, canonRecord, readCanonical}
+use Rattle.reader.specs.Records.{Record, enter, remove, confirm, preview, query, readMark, readEntry, readLicence, readQuery, readContent, readRecord, nothingDeclared, canonRecord, readCanonical}
 use Rattle.reader.specs.Requests.{numberFound, fits, asking, foundOf, numberedBy, numbers, TurnedBack, Reads}
 use Rattle.grants.specs.inner.OnePass.{onOutcome, onGrant, onConcl}
 use Rattle.canon.specs.Canon.{canon, canonConcl}
@@ -81,28 +81,33 @@ concl-first (refused k) = refl
 revised : Revision → Grant → Record
 revised (revision.Remove by) g = remove by g
 revised (revision.Confirm p) g = confirm p g
+revised (revision.Preview p) g = preview p g
 
 licensed : Deed → Prin → Grant → Record
 licensed deed.Issue p g = enter (Issued p) g
 licensed deed.Provisional p g = enter (Provisional p) g
 licensed deed.Withdraw p g = remove (Issued p) g
 licensed deed.Confirm p g = confirm p g
+licensed deed.Preview p g = preview p g
 
 revised-canon : (v : Revision) (g : Grant) → canonRecord (revised v g) ≡ revised v (canon g)
 unfolding revised
 revised-canon (revision.Remove by) g = refl
 revised-canon (revision.Confirm p) g = refl
+revised-canon (revision.Preview p) g = refl
 
 -- it finds the grant's number, and gives none
 revised-found : (v : Revision) (N : List Grant) (g : Grant) (n : ℕ) → foundOf N (got (revised v g) n) ≡ asking (asked v) N g n
 unfolding revised foundOf asked
 revised-found (revision.Remove by) N g n = refl
 revised-found (revision.Confirm p) N g n = refl
+revised-found (revision.Preview p) N g n = refl
 
 revised-rows : (v : Revision) (N : List Grant) (g : Grant) (n : ℕ) → numberedBy N (got (revised v g) n) ≡ N
 unfolding revised numberedBy
 revised-rows (revision.Remove by) N g n = refl
 revised-rows (revision.Confirm p) N g n = refl
+revised-rows (revision.Preview p) N g n = refl
 
 module _ (t : Table) (f : TableForm t) where
   abbrev N : List Grant
@@ -258,6 +263,7 @@ module _ (t : Table) (f : TableForm t) where
     licensed-content deed.Provisional p at = entry-content (Provisional p) at
     licensed-content deed.Withdraw p at = revision-content (revision.Remove (Issued p)) at
     licensed-content deed.Confirm p at = revision-content (revision.Confirm p) at
+    licensed-content deed.Preview p at = revision-content (revision.Preview p) at
 
     licence-right : (d : Deed) (at : ℕ) → Right N t (inForm (readLicence (licensed d) s at)) (numLicence d s at t)
     unfolding readLicence numLicence
@@ -275,6 +281,7 @@ module _ (t : Table) (f : TableForm t) where
     content-right Kind.Wd at = licence-right deed.Withdraw at
     content-right Kind.Pl at = licence-right deed.Provisional at
     content-right Kind.Cf at = licence-right deed.Confirm at
+    content-right Kind.Pv at = licence-right deed.Preview at
     content-right Kind.Qu at =
         rw (concl-first (readConcl (readGrant depths s) nothingDeclared s at))
         (query-right (andThen (readConcl (readGrant depths s) nothingDeclared s at) (λ c n. got (canonConcl c) n)) (numConclForm nothingDeclared s at (starting t))
@@ -321,6 +328,7 @@ licensed-keeps deed.Issue p s at t e = entry-keeps (Issued p) t (numForm s at (s
 licensed-keeps deed.Provisional p s at t e = entry-keeps (Provisional p) t (numForm s at (starting t)) e
 licensed-keeps deed.Withdraw p s at t e = revision-keeps (revision.Remove (Issued p)) t (numForm s at (starting t)) e
 licensed-keeps deed.Confirm p s at t e = revision-keeps (revision.Confirm p) t (numForm s at (starting t)) e
+licensed-keeps deed.Preview p s at t e = revision-keeps (revision.Preview p) t (numForm s at (starting t)) e
 
 licence-keeps : (d : Deed) (s : List ℕ) (at : ℕ) (t : Table) → Keeps t (numLicence d s at t)
 unfolding numLicence
@@ -338,6 +346,7 @@ content-keeps Kind.Li s at t e = licence-keeps deed.Issue s at t e
 content-keeps Kind.Wd s at t e = licence-keeps deed.Withdraw s at t e
 content-keeps Kind.Pl s at t e = licence-keeps deed.Provisional s at t e
 content-keeps Kind.Cf s at t e = licence-keeps deed.Confirm s at t e
+content-keeps Kind.Pv s at t e = licence-keeps deed.Preview s at t e
 content-keeps Kind.Qu s at t e = query-keeps t (numConclForm nothingDeclared s at (starting t)) e
 
 record-keeps : (s : List ℕ) (t : Table) → Keeps t (numRecord s t)
@@ -361,6 +370,7 @@ module _ (k : ℕ) where
   found-number N (got (enter by g) n) = asked-or (fits (number g N)) _ n (Full n) 6 refl
   found-number N (got (remove by g) n) = asked-or (has g N) _ n (Unknown n) 7 refl
   found-number N (got (confirm p g) n) = asked-or (has g N) _ n (Unknown n) 7 refl
+  found-number N (got (preview p g) n) = asked-or (has g N) _ n (Unknown n) 7 refl
   found-number N (got (query c) n) = asked-or (fits (numberConcl c N)) _ n (Full n) 6 refl
 
 -- The promise, by whether the count is one of a book.

@@ -1,4 +1,4 @@
--- Document 01, "Records", with those of document 02, 5; and refusals 1 and 2 at the two mark bytes.
+-- Document 01, "Records", with those of document 02, 5 and 6; and refusals 1 and 2 at the two mark bytes.
 use Prim.Native.Nat.{ℕ, _-_}
 use mathlib.Core.Bool.{Bool, _&&_, cond}
 use mathlib.Core.List.{List, [], _∷_}
@@ -11,7 +11,7 @@ use Rattle.sorts.specs.Numbers.{depths, speakers}
 use Rattle.rows.specs.Written.{Grant, Concl}
 use Rattle.ranges.specs.declared.Scope.{Scope}
 use Rattle.reader.specs.declared.records.Kind.{Kind}
-use Rattle.reader.specs.declared.records.Kind.the-variants.{Tg, St, Li, Wd, Qu, Pl, Cf}
+use Rattle.reader.specs.declared.records.Kind.the-variants.{Tg, St, Li, Wd, Qu, Pl, Cf, Pv}
 use Rattle.ranges.specs.Bytes.{Outcome, got, refused, andThen, byteAt, upto}
 use Rattle.grants.specs.Grants.{readGrant, readConcl}
 use Rattle.canon.specs.Canon.{canon, canonConcl}
@@ -19,11 +19,13 @@ use Rattle.canon.specs.Canon.{canon, canonConcl}
 -- "TG enters a trusted grant, ST strikes it: a grant follows. LI issues a licence, WD withdraws it: an issuer byte 00 to 0F,
 -- then a grant. QU queries: one closed conclusion follows". Document 02, 5: "Record PL enters a provisional licence in the form of LI;
 -- CF, in the form of WD, makes a provisional one firm. WD removes either kind." So a record enters a grant with a status, removes one,
--- confirms a principal's provisional licence, or asks; to remove a principal's licence is to remove it whether firm or provisional.
+-- confirms a principal's provisional licence, previews the withdrawal of one (document 02, 6: "Record PV has the form .. of WD"), or
+-- asks; to remove a principal's licence is to remove it whether firm or provisional.
 pub data Record : Type 0 where
   enter : Status → Grant → Record
   remove : Status → Grant → Record
   confirm : Prin → Grant → Record
+  preview : Prin → Grant → Record
   query : Concl → Record
 
 -- "Each opens with two letters in ASCII."
@@ -35,10 +37,11 @@ lettersOf Wd = 87 ∷ 68 ∷ []
 lettersOf Qu = 81 ∷ 85 ∷ []
 lettersOf Pl = 80 ∷ 76 ∷ []
 lettersOf Cf = 67 ∷ 70 ∷ []
+lettersOf Pv = 80 ∷ 86 ∷ []
 
 -- all kinds, in the order in which the documents list them
 abbrev pub kinds : List Kind
-kinds = Tg ∷ St ∷ Li ∷ Wd ∷ Qu ∷ Pl ∷ Cf ∷ []
+kinds = Tg ∷ St ∷ Li ∷ Wd ∷ Qu ∷ Pl ∷ Cf ∷ Pv ∷ []
 
 -- whether these are a kind's letters
 abbrev pub opens : Kind → ℕ → ℕ → Bool
@@ -79,6 +82,7 @@ readContent Wd s at = readLicence (λ p. remove (Issued p)) s at
 readContent Qu s at = readQuery s at
 readContent Pl s at = readLicence (λ p. enter (Provisional p)) s at
 readContent Cf s at = readLicence confirm s at
+readContent Pv s at = readLicence preview s at
 
 -- A record as it is written, which may be followed by others, and its length.
 unfoldable pub readRecord : List ℕ → Outcome Record
@@ -90,6 +94,7 @@ abbrev pub canonRecord : Record → Record
 canonRecord (enter by g) = enter by (canon g)
 canonRecord (remove by g) = remove by (canon g)
 canonRecord (confirm p g) = confirm p (canon g)
+canonRecord (preview p g) = preview p (canon g)
 canonRecord (query c) = query (canonConcl c)
 
 -- What a record asks and its length: "numbers follow that form, and the plain machine's grants .. are in it. Condition counts are

@@ -16,12 +16,12 @@ use Rattle.rows.specs.Form.{conclOf, rowsOut, TableForm}
 use Rattle.sorts.specs.declared.GrantNo.{GrantNo}
 use Rattle.sorts.specs.declared.Status.{Status}
 use Rattle.reader.specs.declared.records.Request.{Request}
-use Rattle.reader.specs.declared.records.Request.the-variants.{Enter, Remove, Confirm, Query}
+use Rattle.reader.specs.declared.records.Request.the-variants.{Enter, Remove, Confirm, Preview, Query}
 use Rattle.reader.specs.declared.records.Found.{Found}
 use Rattle.reader.specs.declared.records.Found.the-variants.{Asks, Full, Unknown, Refused}
 use Rattle.reader.specs.declared.records.Reading.{Reading}
 use Rattle.ranges.specs.Bytes.{Outcome, got, refused}
-use Rattle.reader.specs.Records.{Record, enter, remove, confirm, query, readCanonical}
+use Rattle.reader.specs.Records.{Record, enter, remove, confirm, preview, query, readCanonical}
 use Rattle.reader.specs.inner.OneRecord.{numRecord}
 
 -- "If an answer is an enum, a definition gives this paper's number and values for each of its cases." What the reader finds is a
@@ -56,6 +56,7 @@ foundOf N (refused k) = Refused k
 foundOf N (got (enter by g) n) = entering by N g n
 foundOf N (got (remove by g) n) = asking (Remove by) N g n
 foundOf N (got (confirm p g) n) = asking (Confirm p) N g n
+foundOf N (got (preview p g) n) = asking (Preview p) N g n
 foundOf N (got (query c) n) = cond (fits (numberConcl c N)) (Asks (Query (conclOf (numberConcl c N) c)) n) (Full n)
 
 -- The grants numbered after it.
@@ -64,6 +65,7 @@ numberedBy N (refused k) = N
 numberedBy N (got (enter by g) n) = cond (fits (number g N)) (number g N) N
 numberedBy N (got (remove by g) n) = N
 numberedBy N (got (confirm p g) n) = N
+numberedBy N (got (preview p g) n) = N
 numberedBy N (got (query c) n) = cond (fits (numberConcl c N)) (numberConcl c N) N
 
 -- Whether what was found gives numbers.
@@ -71,6 +73,7 @@ abbrev pub numbers : Found → Bool
 numbers (Asks (Enter by g) n) = true
 numbers (Asks (Remove by g) n) = false
 numbers (Asks (Confirm p g) n) = false
+numbers (Asks (Preview p g) n) = false
 numbers (Asks (Query c) n) = true
 numbers (Full n) = false
 numbers (Unknown n) = false
@@ -83,6 +86,7 @@ TurnedBack N (refused j) k = j ≡ k
 TurnedBack N (got (enter by g) n) k = (fits (number g N) ≡ false) × (k ≡ 6)
 TurnedBack N (got (remove by g) n) k = (has g N ≡ false) × (k ≡ 7)
 TurnedBack N (got (confirm p g) n) k = (has g N ≡ false) × (k ≡ 7)
+TurnedBack N (got (preview p g) n) k = (has g N ≡ false) × (k ≡ 7)
 TurnedBack N (got (query c) n) k = (fits (numberConcl c N) ≡ false) × (k ≡ 6)
 
 -- THE PROMISE of the reader, over any table: a count above 64 is out of form, 9; over a table in form the answer and the rows,

@@ -29,6 +29,7 @@ pub enum Kind {
     Qu,
     Pl,
     Cf,
+    Pv,
 }
 
 // A record's kind with the place after its mark, or the number of the refusal.
@@ -38,29 +39,34 @@ pub enum MarkOut {
 }
 
 // What a record asks, with each grant as its number: to enter or to remove a trusted grant or a licence, to make a principal's
-// provisional licence firm, or an answer.
+// provisional licence firm, to preview the withdrawal of a licence, or an answer.
 pub enum Request {
     Enter(Status, GrantNo),
     Remove(Status, GrantNo),
     Confirm(Prin, GrantNo),
+    Preview(Prin, GrantNo),
     Query(Concl),
 }
 
-// A revision of what stands, whose grant must have a number: its removal, or that a principal's provisional licence becomes firm.
+// A revision of what stands, whose grant must have a number: its removal, that a principal's provisional licence becomes firm, or the
+// preview of a licence's withdrawal.
 enum Revision {
     Remove(Status),
     Confirm(Prin),
+    Preview(Prin),
 }
 
-// What a record does with a licence: it enters a firm or a provisional one, withdraws one, or makes a provisional one firm.
+// What a record does with a licence: it enters a firm or a provisional one, withdraws one, makes a provisional one firm, or previews
+// its withdrawal.
 enum Deed {
     Issue,
     Provisional,
     Withdraw,
     Confirm,
+    Preview,
 }
 
-// What the reader found: a request; a record whose new grants find no numbers left; a record that removes or confirms what
+// What the reader found: a request; a record whose new grants find no numbers left; a record that removes, confirms or previews what
 // has no number; each with the record's length. Or the number of the refusal.
 pub enum Found {
     Asks(Request, usize),
@@ -101,8 +107,10 @@ impl Kind {
 
     pub const CF: [u8; 2] = *b"CF";
 
+    pub const PV: [u8; 2] = *b"PV";
+
     // How many kinds there are.
-    pub const COUNT: usize = 7;
+    pub const COUNT: usize = 8;
 
     // The letters of a kind.
     pub fn letters(self) -> [u8; 2]
@@ -116,6 +124,7 @@ impl Kind {
             Kind::Qu => Kind::QU,
             Kind::Pl => Kind::PL,
             Kind::Cf => Kind::CF,
+            Kind::Pv => Kind::PV,
         }
     }
 
@@ -140,6 +149,7 @@ fn kind_of(a: u8, b: u8, n: usize) -> MarkOut
         Kind::Qu,
         Kind::Pl,
         Kind::Cf,
+        Kind::Pv,
     ];
     let mut i = 0;
     while i < Kind::COUNT {
@@ -212,6 +222,7 @@ fn asked(v: Revision, no: GrantNo) -> Request
     match v {
         Revision::Remove(by) => Request::Remove(by, no),
         Revision::Confirm(p) => Request::Confirm(p, no),
+        Revision::Preview(p) => Request::Preview(p, no),
     }
 }
 
@@ -271,6 +282,7 @@ fn read_licensed(s: &[u8], at: usize, d: Deed, p: Prin, t: Table) -> Reading
         Deed::Provisional => read_entry(s, at, Status::Provisional(p), t),
         Deed::Withdraw => read_revision(s, at, Revision::Remove(Status::Issued(p)), t),
         Deed::Confirm => read_revision(s, at, Revision::Confirm(p), t),
+        Deed::Preview => read_revision(s, at, Revision::Preview(p), t),
     }
 }
 
@@ -298,6 +310,7 @@ fn read_content(k: Kind, s: &[u8], at: usize, t: Table) -> Reading
         Kind::Qu => read_query(s, at, t),
         Kind::Pl => read_licence(s, at, Deed::Provisional, t),
         Kind::Cf => read_licence(s, at, Deed::Confirm, t),
+        Kind::Pv => read_licence(s, at, Deed::Preview, t),
     }
 }
 

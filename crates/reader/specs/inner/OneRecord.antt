@@ -11,13 +11,13 @@ use Rattle.rows.specs.declared.Numbering.{Numbering}
 use Rattle.grants.specs.declared.GrantReading.{GrantReading}
 use Rattle.grants.specs.declared.ConclReading.{ConclReading}
 use Rattle.reader.specs.declared.records.Kind.{Kind}
-use Rattle.reader.specs.declared.records.Kind.the-variants.{Tg, St, Li, Wd, Qu, Pl, Cf}
+use Rattle.reader.specs.declared.records.Kind.the-variants.{Tg, St, Li, Wd, Qu, Pl, Cf, Pv}
 use Rattle.reader.specs.declared.records.MarkOut.{MarkOut}
 use Rattle.reader.specs.declared.records.MarkOut.the-variants as mark
 use Rattle.sorts.specs.declared.Status.{Status}
 use Rattle.sorts.specs.declared.Status.the-variants.{Trusted, Issued, Provisional}
 use Rattle.reader.specs.declared.records.Request.{Request}
-use Rattle.reader.specs.declared.records.Request.the-variants.{Enter, Remove, Confirm, Query}
+use Rattle.reader.specs.declared.records.Request.the-variants.{Enter, Remove, Confirm, Preview, Query}
 use Rattle.reader.specs.declared.records.Revision.{Revision}
 use Rattle.reader.specs.declared.records.Revision.the-variants as revision
 use Rattle.reader.specs.declared.records.Deed.{Deed}
@@ -55,6 +55,7 @@ numEntry by s at t = entryOf by t (numForm s at (starting t))
 unfoldable pub asked : Revision → GrantNo → Request
 asked (revision.Remove by) g = Remove by g
 asked (revision.Confirm p) g = Confirm p g
+asked (revision.Preview p) g = Preview p g
 
 -- a revision where so many numbers were given before: of a grant that has one of them
 unfoldable pub known : ℕ → Bool → Revision → GrantNo → ℕ → Found
@@ -78,6 +79,7 @@ numLicensed deed.Issue p s at t = numEntry (Issued p) s at t
 numLicensed deed.Provisional p s at t = numEntry (Provisional p) s at t
 numLicensed deed.Withdraw p s at t = numRevision (revision.Remove (Issued p)) s at t
 numLicensed deed.Confirm p s at t = numRevision (revision.Confirm p) s at t
+numLicensed deed.Preview p s at t = numRevision (revision.Preview p) s at t
 
 unfoldable pub numLicence : Deed → List ℕ → ℕ → Table → Reading
 numLicence d s at t = onOutcome (upto (speakers - 1) s at) (noR t) (λ p n. numLicensed d (record { 0 = p }) s n t)
@@ -90,6 +92,7 @@ numContent Wd s at t = numLicence deed.Withdraw s at t
 numContent Qu s at t = numQuery s at t
 numContent Pl s at t = numLicence deed.Provisional s at t
 numContent Cf s at t = numLicence deed.Confirm s at t
+numContent Pv s at t = numLicence deed.Preview s at t
 
 -- a record over a table of at most 64 rows
 unfoldable pub numRecord : List ℕ → Table → Reading

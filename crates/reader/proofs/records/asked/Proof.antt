@@ -9,6 +9,9 @@ enum-known-v c = search needs
 enum-known-v-2 : tie.Need-enum-known-v-2
 enum-known-v-2 c = search needs
 
+enum-known-v-3 : tie.Need-enum-known-v-3
+enum-known-v-3 c = search needs
+
 returns : tie.Need-returns
 unfolding asked
 returns c = rw (c .before .v .given .1)
@@ -17,5 +20,9 @@ returns-2 : tie.Need-returns-2
 unfolding asked
 returns-2 c = rw (c .before .v2 .given .1)
 
+returns-3 : tie.Need-returns-3
+unfolding asked
+returns-3 c = rw (c .before .v3 .given .1)
+
 pub asked-spec : {M : Type 1} → statement M
-asked-spec = tie.close (tie.spec enum-known-v enum-known-v-2 returns returns-2)
+asked-spec = tie.close (tie.spec enum-known-v enum-known-v-2 enum-known-v-3 returns returns-2 returns-3)

@@ -45,6 +45,12 @@ enum-told-7 c = search needs
 read-licence-requires-4 : tie.Need-read-licence-requires-4
 read-licence-requires-4 c κs = search needs
 
+enum-told-8 : tie.Need-enum-told-8
+enum-told-8 c = search needs
+
+read-licence-requires-5 : tie.Need-read-licence-requires-5
+read-licence-requires-5 c κs = search needs
+
 returns : tie.Need-returns
 unfolding numContent
 returns c = rw (c .before .enum-told .given .1) (c .read-entry .ensures)
@@ -73,6 +79,10 @@ returns-7 : tie.Need-returns-7
 unfolding numContent
 returns-7 c = rw (c .before .enum-told7 .given .1) (c .read-licence4 .ensures)
 
+returns-8 : tie.Need-returns-8
+unfolding numContent
+returns-8 c = rw (c .before .enum-told8 .given .1) (c .read-licence5 .ensures)
+
 pub read-content-spec : {M : Type 1} → statement M
 read-content-spec =
     tie.close
@@ -91,10 +101,13 @@ read-content-spec =
     read-licence-requires-3
     enum-told-7
     read-licence-requires-4
+    enum-told-8
+    read-licence-requires-5
     returns
     returns-2
     returns-3
     returns-4
     returns-5
     returns-6
-    returns-7)
+    returns-7
+    returns-8)

@@ -27,6 +27,12 @@ enum-told-4 c = search needs
 read-revision-requires-2 : tie.Need-read-revision-requires-2
 read-revision-requires-2 c κs = search needs
 
+enum-told-5 : tie.Need-enum-told-5
+enum-told-5 c = search needs
+
+read-revision-requires-3 : tie.Need-read-revision-requires-3
+read-revision-requires-3 c κs = search needs
+
 returns : tie.Need-returns
 unfolding numLicensed
 returns c = rw (c .before .enum-told .given .1) (c .read-entry .ensures)
@@ -43,6 +49,10 @@ returns-4 : tie.Need-returns-4
 unfolding numLicensed
 returns-4 c = rw (c .before .enum-told4 .given .1) (c .read-revision2 .ensures)
 
+returns-5 : tie.Need-returns-5
+unfolding numLicensed
+returns-5 c = rw (c .before .enum-told5 .given .1) (c .read-revision3 .ensures)
+
 pub read-licensed-spec : {M : Type 1} → statement M
 read-licensed-spec =
     tie.close
@@ -55,7 +65,10 @@ read-licensed-spec =
     read-revision-requires
     enum-told-4
     read-revision-requires-2
+    enum-told-5
+    read-revision-requires-3
     returns
     returns-2
     returns-3
-    returns-4)
+    returns-4
+    returns-5)
