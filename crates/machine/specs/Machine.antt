@@ -2,16 +2,17 @@
 use Prim.Native.Nat.{ℕ}
 use mathlib.Core.Bool.{Bool, true, false, _&&_, _||_, cond}
 use mathlib.Core.List.{List, [], _∷_, _++_}
+use lib.Dec.{eqb}
 use Rattle.sorts.specs.declared.Prin.{Prin}
 use Rattle.sorts.specs.declared.Status.{Status}
 use Rattle.sorts.specs.declared.Status.the-variants.{Trusted, Issued, Provisional}
-use Rattle.sorts.specs.Numbers.{numberOf}
+use Rattle.sorts.specs.Numbers.{numberOf, allMarks}
 use Rattle.sorts.specs.Flags.{sameStatus}
 use Rattle.rows.specs.Written.{Grant, sameWritten}
 use Rattle.rows.specs.Numbering.{number, numberConcl}
 use Rattle.rows.specs.Form.{conclOf}
 use Rattle.ranges.specs.Bytes.{Outcome, got, refused}
-use Rattle.reader.specs.Records.{Record, enter, remove, confirm, query, readCanonical}
+use Rattle.reader.specs.Records.{Record, enter, remove, confirm, preview, query, readCanonical}
 use Rattle.reader.specs.Requests.{fits}
 
 -- What stands: a grant with its status, trusted, issued by a principal, or issued provisionally.
@@ -51,10 +52,11 @@ delete x (y ∷ E) = cond (sameEntry x y) (delete x E) (y ∷ delete x E)
 abbrev pub stands : State → Status → Grant → Bool
 stands M by g = member (record { by = by; what = g }) (M .entries)
 
--- What the machine says of a record: a change of what stands; a query, with the number of the conclusion to be looked up; or
--- a refusal with its number.
+-- What the machine says of a record: a change of what stands; a preview of p's licence withdrawn; a query, with the number of the
+-- conclusion to be looked up; or a refusal with its number.
 pub data Verdict : Type 0 where
   changes : Verdict
+  previews : Prin → Grant → Verdict
   asks : ℕ → Verdict
   refuses : ℕ → Verdict
 
@@ -94,6 +96,10 @@ removed (Provisional p) g E = delete (entry (Provisional p) g) E
 abbrev pub change : List Entry → List Grant → ℕ → Step
 change E N n = record { next = record { entries = E; N = N }; says = changes; used = n }
 
+-- Document 02, 6: "Record PV has the form and refusals of WD"; "The book is untouched".
+abbrev pub previewed : State → Prin → Grant → ℕ → Step
+previewed M p g n = record { next = M; says = previews p g; used = n }
+
 -- "TG, LI and QU append their new grants to N, each once, in the order of numbering"; "PL appends its new grants to N as LI does".
 -- 6: "the grants that the record would number and those in N exceed 64". 7: "the grant or licence to remove doesn't stand"; "CF of a
 -- licence that isn't provisional meets refusal 7". "bytes used are the record's length for 6 and 7". A record of n bytes:
@@ -101,6 +107,7 @@ unfoldable pub act : State → Record → ℕ → Step
 act M (enter by g) n = cond (fits (number g (M .N))) (change (entered by g (M .entries)) (number g (M .N)) n) (refuse M 6 n)
 act M (remove by g) n = cond (there by g (M .entries)) (change (removed by g (M .entries)) (M .N) n) (refuse M 7 n)
 act M (confirm p g) n = cond (stands M (Provisional p) g) (change (entered (Issued p) g (M .entries)) (M .N) n) (refuse M 7 n)
+act M (preview p g) n = cond (there (Issued p) g (M .entries)) (previewed M p g n) (refuse M 7 n)
 act M (query c) n =
     cond (fits (numberConcl c (M .N)))
     (record { next = record { entries = M .entries; N = numberConcl c (M .N) }; says = asks (numberOf (conclOf (numberConcl c (M .N)) c)); used = n })
@@ -115,3 +122,8 @@ acted M (refused k) = refuse M k 0
 -- canonical form.
 unfoldable pub step : State → List ℕ → Step
 step M s = acted M (readCanonical s)
+
+-- Document 02, 6: "A preview buffer not as long as the marks meets refusal 9, and the plain machine, fed that length too, then refuses
+-- with 9 as well." The record s, where a preview buffer of u bytes is lent.
+unfoldable pub feed : State → ℕ → List ℕ → Step
+feed M u s = cond (eqb u allMarks) (step M s) (refuse M 9 0)
