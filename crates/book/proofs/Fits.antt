@@ -9,7 +9,7 @@ use Rattle.sorts.specs.declared.Status.the-variants.{Issued}
 use Rattle.sorts.specs.Numbers.{numberOf, allMarks, grants}
 use Rattle.sorts.specs.Flags.{StatusRange}
 use Rattle.reader.specs.declared.records.Request.{Request}
-use Rattle.reader.specs.declared.records.Request.the-variants.{Enter, Remove, Confirm, Query}
+use Rattle.reader.specs.declared.records.Request.the-variants.{Enter, Remove, Confirm, Preview, Query}
 use Rattle.reader.specs.declared.records.Found.the-variants.{Asks}
 use Rattle.book.specs.inner.Apply.{FoundFits}
 
@@ -25,6 +25,9 @@ module _ (q : Request) (n : ℕ) (h : FoundFits (Asks q n)) where
 
   pub fits-confirm : (p : Prin) (g : GrantNo) → q ≡ Confirm p g → StatusRange (Issued p) × (g .0 < grants)
   fits-confirm p g d = found-as (Confirm p g) d
+
+  pub fits-preview : (p : Prin) (g : GrantNo) → q ≡ Preview p g → StatusRange (Issued p) × (g .0 < grants)
+  fits-preview p g d = found-as (Preview p g) d
 
   pub fits-query : (c : Concl) → q ≡ Query c → numberOf c < allMarks
   fits-query c d = found-as (Query c) d

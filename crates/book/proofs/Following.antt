@@ -8,7 +8,7 @@ use lib.ListN.{length}
 use Rattle.sorts.specs.declared.Prin.{Prin}
 use Rattle.sorts.specs.declared.Status.{Status}
 use Rattle.sorts.specs.declared.Status.the-variants.{Trusted, Issued, Provisional}
-use Rattle.sorts.specs.Numbers.{numberOf, grants}
+use Rattle.sorts.specs.Numbers.{numberOf, allMarks, grants}
 use Rattle.sorts.specs.Flags.{StatusRange}
 use Rattle.rows.specs.declared.Table.{Table}
 use Rattle.rows.specs.Written.{Grant, Concl}
@@ -19,9 +19,9 @@ use Rattle.rows.proofs.Place.{Distinct, has-lt}
 use Rattle.rows.proofs.Shown.{form-shown, out-length}
 use Rattle.rows.proofs.Appended.{Ext, ext-refl, ext-length, number-ext, concl-more}
 use Rattle.ranges.specs.Bytes.{Outcome, got, refused}
-use Rattle.reader.specs.Records.{Record, enter, remove, confirm, query, readCanonical}
+use Rattle.reader.specs.Records.{Record, enter, remove, confirm, preview, query, readCanonical}
 use Rattle.reader.specs.Requests.{fits, foundOf, numberedBy, Reads}
-use Rattle.reader.specs.declared.records.Request.the-variants.{Enter, Remove, Confirm, Query}
+use Rattle.reader.specs.declared.records.Request.the-variants.{Enter, Remove, Confirm, Preview, Query}
 use Rattle.reader.specs.declared.records.Found.{Found}
 use Rattle.reader.specs.declared.records.Found.the-variants as found
 use Rattle.reader.specs.declared.records.Reading.{Reading}
@@ -33,28 +33,18 @@ use Rattle.rules.proofs.Standing.{standing-length, standing-bits}
 use Rattle.flags.specs.Both.{bothFlags}
 use Rattle.flags.specs.Changes.{isSet, enteredFlags, thereFlags, removedFlags}
 use Rattle.flags.proofs.Changing.{FlagsFit, entered-fit, removed-fit}
-use Rattle.machine.specs.Machine.{State, Entry, Step, changes, asks, refuses, refuse, change, act, acted, step, stands, entered, there, removed}
+use Rattle.machine.specs.Machine.{State, Entry, Step, changes, previews, asks, refuses, refuse, previewed, change, act, acted, step, stands, entered, there, removed}
 use Rattle.machine.proofs.Apart.{Apart, entered-apart, removed-apart}
 use Rattle.machine.proofs.Flags.{Shown, entered-shown, removed-shown, there-shown, set-shown, apart-flags, flags-apart}
 use Rattle.book.specs.declared.Book.{Book}
 use Rattle.book.specs.declared.Answered.{Answered}
 use Rattle.book.specs.Books.{BookForm, Shows}
-use Rattle.book.specs.Calls.{answerOf, marksAfter, secondAfter, Follows}
-use Rattle.book.specs.inner.Apply.{firmMarks, bothMarks, refusedWith, changedTo, enteredBook, removedBook, appliedTo, marksAppliedTo, applied, marksApplied, FoundFits, Ready}
+use Rattle.book.specs.Calls.{answerOf, marksAfter, secondAfter, previewAfter, Follows}
+use Rattle.book.specs.inner.Apply.{firmMarks, bothMarks, refusedWith, changedTo, previewedBy, enteredBook, removedBook, appliedTo, marksAppliedTo, previewAppliedTo, applied, marksApplied, previewApplied, FoundFits, Ready}
 use Rattle.book.proofs.Showing.{shown-more, shown-book}
 use Rattle.book.proofs.Forms.{table-rows, number-has, found-fits, firm-status}
 
--- what a call follows, for any step
-record Steps (st : Step) (b : Book) (m k : List ℕ) (a : Answered) (n l : List ℕ) : Type 0 where
-  answer : a .answer ≡ answerOf (st .says) m k n
-  used : a .used ≡ st .used
-  marks : n ≡ marksAfter (st .says) (a .book) m
-  second : l ≡ secondAfter (st .says) (a .book) k
-  shows : Shows (a .book) (st .next)
-  form : BookForm (a .book) n l
-  kept : (j : ℕ) → st .says ≡ refuses j → a .book ≡ b
-
-module _ (b : Book) (m k s : List ℕ) (f : BookForm b m k) (r : Reading) (R : Reads s (b .table) r) where
+module _ (b : Book) (m k v s : List ℕ) (f : BookForm b m k) (vl : length v ≡ allMarks) (r : Reading) (R : Reads s (b .table) r) where
   abbrev N : List Grant
   N = rowsOut (b .table .rows) (b .table .count)
 
@@ -69,13 +59,14 @@ module _ (b : Book) (m k s : List ℕ) (f : BookForm b m k) (r : Reading) (R : R
   numbered = rows-all (b .table) (f .canonical)
 
   -- what the code needs holds
-  pub ready : Ready b m k r
+  pub ready : Ready b m k v r
   ready = record {
     rows = table-rows (b .table) (f .table);
     next = table-rows (r .table) (R .form (f .table));
     flags = f .flags;
     marks = f .marks .count;
     second = f .second .count;
+    preview = vl;
     fits = subst FoundFits (sym (R .found (f .table))) (found-fits N small s);
   }
 
@@ -90,15 +81,24 @@ module _ (b : Book) (m k s : List ℕ) (f : BookForm b m k) (r : Reading) (R : R
     apart : Apart E
     apart = flags-apart N (b .flags) E (over N (ext-refl N) (form-shown (b .table) (f .table) .distinct)) (f .apart)
 
-    refused-steps : (j n : ℕ) → Steps (refuse M j n) b m k (refusedWith b j n) m k
-    unfolding answerOf marksAfter secondAfter
-    refused-steps j n = record { answer = refl; used = refl; marks = refl; second = refl; shows = sh; form = f; kept = λ i e. refl }
+    refused-steps : (j n : ℕ) → Follows M (refuse M j n) b m k v (refusedWith b j n) m k v
+    unfolding answerOf marksAfter secondAfter previewAfter
+    refused-steps j n = record { answer = refl; used = refl; marks = refl; second = refl; preview = refl; shows = sh; form = f; kept = λ i e. refl; untouched = λ q h e. refl }
 
     no-change : {j : ℕ} → changes ≡ refuses j → ⊥
     no-change e = let z : _≡_ {A = ℕ} 0 1 = cc in omega arith
 
     no-asks : {c j : ℕ} → asks c ≡ refuses j → ⊥
     no-asks e = let z : _≡_ {A = ℕ} 0 1 = cc in omega arith
+
+    no-show : {p : Prin} {g : Grant} → changes ≡ previews p g → ⊥
+    no-show e = let z : _≡_ {A = ℕ} 0 1 = cc in omega arith
+
+    asks-shows : {c : ℕ} {p : Prin} {g : Grant} → asks c ≡ previews p g → ⊥
+    asks-shows e = let z : _≡_ {A = ℕ} 0 1 = cc in omega arith
+
+    shows-refused : {p : Prin} {g : Grant} {j : ℕ} → previews p g ≡ refuses j → ⊥
+    shows-refused e = let z : _≡_ {A = ℕ} 0 1 = cc in omega arith
 
     -- over a table that shows N′
     module _ (t : Table) (F : TableForm t) (N′ : List Grant) (is : rowsOut (t .rows) (t .count) ≡ N′) (ext : Ext N N′) (all : AllInForm N′) where
@@ -119,13 +119,14 @@ module _ (b : Book) (m k s : List ℕ) (f : BookForm b m k) (r : Reading) (R : R
 
       -- flags that changed, and what stands then
       change-steps : (G : List ℕ) (D : List Entry) → Shown N′ G D → FlagsFit (t .count) G → Apart D → (n : ℕ) →
-          Steps (change D N′ n) b m k (changedTo (record { table = t; flags = G }) m n) (firmMarks (record { table = t; flags = G })) (bothMarks (record { table = t; flags = G }))
-      unfolding answerOf marksAfter secondAfter
+          Follows M (change D N′ n) b m k v (changedTo (record { table = t; flags = G }) m n) (firmMarks (record { table = t; flags = G })) (bothMarks (record { table = t; flags = G })) v
+      unfolding answerOf marksAfter secondAfter previewAfter
       change-steps G D S T a n = record {
         answer = refl;
         used = refl;
         marks = refl;
         second = refl;
+        preview = refl;
         shows = shown-book t G D N′ is S;
         form = record {
           marks = record { count = standing-length (t .rows) G; bits = standing-bits (t .rows) G };
@@ -138,19 +139,20 @@ module _ (b : Book) (m k s : List ℕ) (f : BookForm b m k) (r : Reading) (R : R
           unflagged = T .unflagged;
         };
         kept = λ j e. absurd (no-change e);
+        untouched = λ q h e. absurd (no-show e);
       }
 
       module _ (by : Status) (known : StatusRange by) (g : Grant) (there′ : has g N′ ≡ true) where
         in-table : place g N′ < t .count
         in-table = omega (arith, len′, has-lt g N′ there′)
 
-        entered-steps : (n : ℕ) → Steps (change (entered by g E) N′ n) b m k (changedTo (enteredBook b t by (place g N′)) m n) (firmMarks (enteredBook b t by (place g N′))) (bothMarks (enteredBook b t by (place g N′)))
+        entered-steps : (n : ℕ) → Follows M (change (entered by g E) N′ n) b m k v (changedTo (enteredBook b t by (place g N′)) m n) (firmMarks (enteredBook b t by (place g N′))) (bothMarks (enteredBook b t by (place g N′))) v
         entered-steps n =
             change-steps (enteredFlags by (place g N′) (b .flags)) (entered by g E) (entered-shown N′ small′ distinct′ g there′ (b .flags) E before by known)
             (entered-fit (t .count) (F .count) (place g N′) in-table (b .flags) by (f .flags) known fit) (entered-apart E apart g by) n
 
-        removed-steps : (n : ℕ) → Steps (change (removed by g E) N′ n) b m k (changedTo (record { table = t; flags = removedFlags by (place g N′) (b .flags) }) m n)
-            (firmMarks (record { table = t; flags = removedFlags by (place g N′) (b .flags) })) (bothMarks (record { table = t; flags = removedFlags by (place g N′) (b .flags) }))
+        removed-steps : (n : ℕ) → Follows M (change (removed by g E) N′ n) b m k v (changedTo (record { table = t; flags = removedFlags by (place g N′) (b .flags) }) m n)
+            (firmMarks (record { table = t; flags = removedFlags by (place g N′) (b .flags) })) (bothMarks (record { table = t; flags = removedFlags by (place g N′) (b .flags) })) v
         removed-steps n =
             change-steps (removedFlags by (place g N′) (b .flags)) (removed by g E) (removed-shown N′ small′ distinct′ g there′ (b .flags) E before by known)
             (removed-fit (t .count) (F .count) (place g N′) in-table (b .flags) by (f .flags) known fit) (removed-apart E apart g by) n
@@ -161,10 +163,10 @@ module _ (b : Book) (m k s : List ℕ) (f : BookForm b m k) (r : Reading) (R : R
     -- to enter
 
     module _ (by : Status) (known : StatusRange by) (g : Grant) (own : Canonical g) (n : ℕ) (rows′ : fits (number g N) ≡ true → rowsOut (r .table .rows) (r .table .count) ≡ number g N) where
-      enter-steps : (c : Bool) → fits (number g N) ≡ c → Steps (cond c (change (entered by g E) (number g N) n) (refuse M 6 n)) b m k
+      enter-steps : (c : Bool) → fits (number g N) ≡ c → Follows M (cond c (change (entered by g E) (number g N) n) (refuse M 6 n)) b m k v
           (appliedTo b m k (r .table) (cond c (found.Asks (Enter by (record { 0 = place g (number g N) })) n) (found.Full n)))
           (marksAppliedTo firmMarks b m (r .table) (cond c (found.Asks (Enter by (record { 0 = place g (number g N) })) n) (found.Full n)))
-          (marksAppliedTo bothMarks b k (r .table) (cond c (found.Asks (Enter by (record { 0 = place g (number g N) })) n) (found.Full n)))
+          (marksAppliedTo bothMarks b k (r .table) (cond c (found.Asks (Enter by (record { 0 = place g (number g N) })) n) (found.Full n))) (previewAppliedTo b v (cond c (found.Asks (Enter by (record { 0 = place g (number g N) })) n) (found.Full n)))
       enter-steps true e =
           entered-steps (r .table) (R .form (f .table)) (number g N) (rows′ e) (number-ext g N) (number-in-form g N own numbered) by known g (number-has g N) n
       enter-steps false e = refused-steps 6 n
@@ -179,15 +181,15 @@ module _ (b : Book) (m k s : List ℕ) (f : BookForm b m k) (r : Reading) (R : R
     not-true-false false h = refl
 
     -- a change where there is something to change, by what the flags say and by what stands
-    picked : (D : List Entry) (b′ : Book) (n : ℕ) → Steps (change D N n) b m k (changedTo b′ m n) (firmMarks b′) (bothMarks b′) → (c d : Bool) → c ≡ d →
-        Steps (cond d (change D N n) (refuse M 7 n)) b m k (cond c (changedTo b′ m n) (refusedWith b 7 n)) (cond c (firmMarks b′) m) (cond c (bothMarks b′) k)
+    picked : (D : List Entry) (b′ : Book) (n : ℕ) → Follows M (change D N n) b m k v (changedTo b′ m n) (firmMarks b′) (bothMarks b′) v → (c d : Bool) → c ≡ d →
+        Follows M (cond d (change D N n) (refuse M 7 n)) b m k v (cond c (changedTo b′ m n) (refusedWith b 7 n)) (cond c (firmMarks b′) m) (cond c (bothMarks b′) k) v
     picked D b′ n S true true e = S
     picked D b′ n S true false e = absurd (no-true (sym e))
     picked D b′ n S false true e = absurd (no-true e)
     picked D b′ n S false false e = refused-steps 7 n
 
     -- nothing to change
-    left : (st : Step) (n : ℕ) (d : Bool) → d ≡ false → Steps (cond d st (refuse M 7 n)) b m k (refusedWith b 7 n) m k
+    left : (st : Step) (n : ℕ) (d : Bool) → d ≡ false → Follows M (cond d st (refuse M 7 n)) b m k v (refusedWith b 7 n) m k v
     left st n true e = absurd (no-true (sym e))
     left st n false e = refused-steps 7 n
 
@@ -197,37 +199,54 @@ module _ (b : Book) (m k s : List ℕ) (f : BookForm b m k) (r : Reading) (R : R
       not-there e (Issued p) = rw (not-true-false (stands M (Issued p) g) (absent g e (Issued p))) (not-true-false (stands M (Provisional p) g) (absent g e (Provisional p)))
       not-there e (Provisional p) = not-true-false (stands M (Provisional p) g) (absent g e (Provisional p))
 
-      remove-steps : (by : Status) → StatusRange by → (d : Bool) → has g N ≡ d → Steps (cond (there by g E) (change (removed by g E) N n) (refuse M 7 n)) b m k
+      remove-steps : (by : Status) → StatusRange by → (d : Bool) → has g N ≡ d → Follows M (cond (there by g E) (change (removed by g E) N n) (refuse M 7 n)) b m k v
           (appliedTo b m k (r .table) (cond d (found.Asks (Remove by (record { 0 = place g N })) n) (found.Unknown n)))
           (marksAppliedTo firmMarks b m (r .table) (cond d (found.Asks (Remove by (record { 0 = place g N })) n) (found.Unknown n)))
-          (marksAppliedTo bothMarks b k (r .table) (cond d (found.Asks (Remove by (record { 0 = place g N })) n) (found.Unknown n)))
+          (marksAppliedTo bothMarks b k (r .table) (cond d (found.Asks (Remove by (record { 0 = place g N })) n) (found.Unknown n))) (previewAppliedTo b v (cond d (found.Asks (Remove by (record { 0 = place g N })) n) (found.Unknown n)))
       remove-steps by known true h =
           picked (removed by g E) (removedBook b by (place g N)) n (removed-steps (b .table) (f .table) N refl (ext-refl N) numbered by known g h n)
           (thereFlags by (place g N) (b .flags)) (there by g E) (there-shown N small distinct g h (b .flags) E (over N (ext-refl N) distinct) by known)
       remove-steps by known false h = left (change (removed by g E) N n) n (there by g E) (not-there h by)
 
-      confirm-steps : (p : Prin) → StatusRange (Issued p) → (d : Bool) → has g N ≡ d → Steps (cond (stands M (Provisional p) g) (change (entered (Issued p) g E) N n) (refuse M 7 n)) b m k
+      confirm-steps : (p : Prin) → StatusRange (Issued p) → (d : Bool) → has g N ≡ d → Follows M (cond (stands M (Provisional p) g) (change (entered (Issued p) g E) N n) (refuse M 7 n)) b m k v
           (appliedTo b m k (r .table) (cond d (found.Asks (Confirm p (record { 0 = place g N })) n) (found.Unknown n)))
           (marksAppliedTo firmMarks b m (r .table) (cond d (found.Asks (Confirm p (record { 0 = place g N })) n) (found.Unknown n)))
-          (marksAppliedTo bothMarks b k (r .table) (cond d (found.Asks (Confirm p (record { 0 = place g N })) n) (found.Unknown n)))
+          (marksAppliedTo bothMarks b k (r .table) (cond d (found.Asks (Confirm p (record { 0 = place g N })) n) (found.Unknown n))) (previewAppliedTo b v (cond d (found.Asks (Confirm p (record { 0 = place g N })) n) (found.Unknown n)))
       confirm-steps p known true h =
           picked (entered (Issued p) g E) (enteredBook b (b .table) (Issued p) (place g N)) n (entered-steps (b .table) (f .table) N refl (ext-refl N) numbered (Issued p) known g h n)
           (isSet (b .flags) (Provisional p) (place g N)) (stands M (Provisional p) g) (set-shown N small distinct g h (b .flags) E (over N (ext-refl N) distinct) (Provisional p) known)
       confirm-steps p known false h = left (change (entered (Issued p) g E) N n) n (stands M (Provisional p) g) (not-true-false (stands M (Provisional p) g) (absent g h (Provisional p)))
 
+      -- to preview: what stands without the licence, by what the flags say and by what stands
+      seen : (p : Prin) (c d : Bool) → c ≡ d → Follows M (cond d (previewed M p g n) (refuse M 7 n)) b m k v (cond c (previewedBy b (removedBook b (Issued p) (place g N)) m n) (refusedWith b 7 n)) m k (cond c (firmMarks (removedBook b (Issued p) (place g N))) v)
+      unfolding answerOf marksAfter secondAfter previewAfter
+      seen p true true e = record { answer = refl; used = refl; marks = refl; second = refl; preview = refl; shows = sh; form = f; kept = λ j e. absurd (shows-refused e); untouched = λ q h e. refl }
+      seen p true false e = absurd (no-true (sym e))
+      seen p false true e = absurd (no-true e)
+      seen p false false e = refused-steps 7 n
+
+      preview-steps : (p : Prin) → StatusRange (Issued p) → (d : Bool) → has g N ≡ d → Follows M (cond (there (Issued p) g E) (previewed M p g n) (refuse M 7 n)) b m k v
+          (appliedTo b m k (r .table) (cond d (found.Asks (Preview p (record { 0 = place g N })) n) (found.Unknown n)))
+          (marksAppliedTo firmMarks b m (r .table) (cond d (found.Asks (Preview p (record { 0 = place g N })) n) (found.Unknown n)))
+          (marksAppliedTo bothMarks b k (r .table) (cond d (found.Asks (Preview p (record { 0 = place g N })) n) (found.Unknown n))) (previewAppliedTo b v (cond d (found.Asks (Preview p (record { 0 = place g N })) n) (found.Unknown n)))
+      preview-steps p known true h =
+          seen p (thereFlags (Issued p) (place g N) (b .flags)) (there (Issued p) g E) (there-shown N small distinct g h (b .flags) E (over N (ext-refl N) distinct) (Issued p) known)
+      preview-steps p known false h = left (previewed M p g n) n (there (Issued p) g E) (not-there h (Issued p))
+
     -- to query
 
     query-steps : (c : Concl) → CanonicalConcl c → (n : ℕ) → (fits (numberConcl c N) ≡ true → rowsOut (r .table .rows) (r .table .count) ≡ numberConcl c N) → (d : Bool) → fits (numberConcl c N) ≡ d →
-        Steps (cond d (record { next = record { entries = E; N = numberConcl c N }; says = asks (numberOf (conclOf (numberConcl c N) c)); used = n }) (refuse M 6 n)) b m k
+        Follows M (cond d (record { next = record { entries = E; N = numberConcl c N }; says = asks (numberOf (conclOf (numberConcl c N) c)); used = n }) (refuse M 6 n)) b m k v
         (appliedTo b m k (r .table) (cond d (found.Asks (Query (conclOf (numberConcl c N) c)) n) (found.Full n)))
         (marksAppliedTo firmMarks b m (r .table) (cond d (found.Asks (Query (conclOf (numberConcl c N) c)) n) (found.Full n)))
-        (marksAppliedTo bothMarks b k (r .table) (cond d (found.Asks (Query (conclOf (numberConcl c N) c)) n) (found.Full n)))
-    unfolding answerOf marksAfter secondAfter
+        (marksAppliedTo bothMarks b k (r .table) (cond d (found.Asks (Query (conclOf (numberConcl c N) c)) n) (found.Full n))) (previewAppliedTo b v (cond d (found.Asks (Query (conclOf (numberConcl c N) c)) n) (found.Full n)))
+    unfolding answerOf marksAfter secondAfter previewAfter
     query-steps c own n rows′ true e = record {
       answer = refl;
       used = refl;
       marks = refl;
       second = refl;
+      preview = refl;
       shows = shown-book (r .table) (b .flags) E (numberConcl c N) (rows′ e) (over (numberConcl c N) (concl-more c N) (subst Distinct (rows′ e) (form-shown (r .table) F .distinct)));
       form = record {
         marks = f .marks;
@@ -240,6 +259,7 @@ module _ (b : Book) (m k s : List ℕ) (f : BookForm b m k) (r : Reading) (R : R
         unflagged = λ i l. f .unflagged i (omega (arith, len, more));
       };
       kept = λ j e. absurd (no-asks e);
+      untouched = λ q h e. absurd (asks-shows e);
     }
       where
         F : TableForm (r .table)
@@ -249,35 +269,36 @@ module _ (b : Book) (m k s : List ℕ) (f : BookForm b m k) (r : Reading) (R : R
         more = let x = ext-length (concl-more c N) in let y = sym (out-length (r .table .rows) (r .table .count)) ∙ ap length (rows′ e) in omega arith
     query-steps c own n rows′ false e = refused-steps 6 n
 
-    record-steps : (q : Record) (n : ℕ) → readCanonical s ≡ got q n → Steps (act M q n) b m k
-        (appliedTo b m k (r .table) (foundOf N (got q n))) (marksAppliedTo firmMarks b m (r .table) (foundOf N (got q n))) (marksAppliedTo bothMarks b k (r .table) (foundOf N (got q n)))
+    record-steps : (q : Record) (n : ℕ) → readCanonical s ≡ got q n → Follows M (act M q n) b m k v
+        (appliedTo b m k (r .table) (foundOf N (got q n))) (marksAppliedTo firmMarks b m (r .table) (foundOf N (got q n))) (marksAppliedTo bothMarks b k (r .table) (foundOf N (got q n))) (previewAppliedTo b v (foundOf N (got q n)))
     unfolding act foundOf numberedBy AllowedRecord
     record-steps (enter by g) n e =
         enter-steps by (canonical-exact s (enter by g) n e .0 .0) g (canonical-exact s (enter by g) n e .1) n
         (λ c. R .rows (f .table) ∙ ap (numberedBy N) e ∙ ap (λ (x : Bool). cond x (number g N) N) c) (fits (number g N)) refl
     record-steps (remove by g) n e = remove-steps g n by (firm-status by (canonical-exact s (remove by g) n e .0 .0)) (has g N) refl
     record-steps (confirm p g) n e = confirm-steps g n p (canonical-exact s (confirm p g) n e .0 .0) (has g N) refl
+    record-steps (preview p g) n e = preview-steps g n p (canonical-exact s (preview p g) n e .0 .0) (has g N) refl
     record-steps (query c) n e =
         query-steps c (canonical-exact s (query c) n e .1) n (λ d. R .rows (f .table) ∙ ap (numberedBy N) e ∙ ap (λ (x : Bool). cond x (numberConcl c N) N) d) (fits (numberConcl c N)) refl
 
-    outcome-steps : (o : Outcome Record) → readCanonical s ≡ o → Steps (acted M o) b m k
-        (appliedTo b m k (r .table) (foundOf N o)) (marksAppliedTo firmMarks b m (r .table) (foundOf N o)) (marksAppliedTo bothMarks b k (r .table) (foundOf N o))
+    outcome-steps : (o : Outcome Record) → readCanonical s ≡ o → Follows M (acted M o) b m k v
+        (appliedTo b m k (r .table) (foundOf N o)) (marksAppliedTo firmMarks b m (r .table) (foundOf N o)) (marksAppliedTo bothMarks b k (r .table) (foundOf N o)) (previewAppliedTo b v (foundOf N o))
     unfolding foundOf
     outcome-steps (got q n) e = record-steps q n e
     outcome-steps (refused j) e = refused-steps j 0
 
-    all-steps : Steps (acted M (readCanonical s)) b m k (appliedTo b m k (r .table) (r .found)) (marksAppliedTo firmMarks b m (r .table) (r .found)) (marksAppliedTo bothMarks b k (r .table) (r .found))
+    all-steps : Follows M (acted M (readCanonical s)) b m k v (appliedTo b m k (r .table) (r .found)) (marksAppliedTo firmMarks b m (r .table) (r .found)) (marksAppliedTo bothMarks b k (r .table) (r .found)) (previewAppliedTo b v (r .found))
     all-steps =
-        subst (λ (x : Found). Steps (acted M (readCanonical s)) b m k (appliedTo b m k (r .table) x) (marksAppliedTo firmMarks b m (r .table) x) (marksAppliedTo bothMarks b k (r .table) x))
+        subst (λ (x : Found). Follows M (acted M (readCanonical s)) b m k v (appliedTo b m k (r .table) x) (marksAppliedTo firmMarks b m (r .table) x) (marksAppliedTo bothMarks b k (r .table) x) (previewAppliedTo b v x))
         (sym (R .found (f .table))) (outcome-steps (readCanonical s) refl)
 
-    follows-at : Follows M b m k s (applied b m k r) (marksApplied firmMarks b m r) (marksApplied bothMarks b k r)
-    unfolding step applied marksApplied
-    follows-at = let x = all-steps in record { answer = x .answer; used = x .used; marks = x .marks; second = x .second; shows = x .shows; form = x .form; kept = x .kept }
+    follows-at : Follows M (step M s) b m k v (applied b m k r) (marksApplied firmMarks b m r) (marksApplied bothMarks b k r) (previewApplied b v r)
+    unfolding step applied marksApplied previewApplied
+    follows-at = all-steps
 
-  pub follows : (M : State) → Shows b M → Follows M b m k s (applied b m k r) (marksApplied firmMarks b m r) (marksApplied bothMarks b k r)
+  pub follows : (M : State) → Shows b M → Follows M (step M s) b m k v (applied b m k r) (marksApplied firmMarks b m r) (marksApplied bothMarks b k r) (previewApplied b v r)
   follows M sh =
-      subst (λ (X : State). Follows X b m k s (applied b m k r) (marksApplied firmMarks b m r) (marksApplied bothMarks b k r)) same (follows-at (M .entries) (subst (Shows b) (sym same) sh))
+      subst (λ (X : State). Follows X (step X s) b m k v (applied b m k r) (marksApplied firmMarks b m r) (marksApplied bothMarks b k r) (previewApplied b v r)) same (follows-at (M .entries) (subst (Shows b) (sym same) sh))
     where
       same : record { entries = M .entries; N = N } ≡ M
       same = λ i. record { entries = M .entries; N = sh .rows i }

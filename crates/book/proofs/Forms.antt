@@ -28,9 +28,9 @@ use Rattle.rows.specs.Allowed.{AllowedConcl}
 use Rattle.rows.proofs.Place.{has-in, has-lt}
 use Rattle.rows.proofs.Shown.{length-more}
 use Rattle.ranges.specs.Bytes.{Outcome, got, refused}
-use Rattle.reader.specs.Records.{Record, enter, remove, confirm, query, readCanonical}
+use Rattle.reader.specs.Records.{Record, enter, remove, confirm, preview, query, readCanonical}
 use Rattle.reader.specs.Requests.{fits, foundOf}
-use Rattle.reader.specs.declared.records.Request.the-variants.{Enter, Remove, Confirm, Query}
+use Rattle.reader.specs.declared.records.Request.the-variants.{Enter, Remove, Confirm, Preview, Query}
 use Rattle.reader.specs.declared.records.Found.the-variants as found
 use Rattle.exact.specs.Writing.{AllowedRecord}
 use Rattle.exact.proofs.CanonicalRecords.{canonical-exact}
@@ -127,6 +127,11 @@ module _ (N : List Grant) (small : length N ≤ grants) where
   confirming-fits p k g n true e = (k, numbered-fits g e)
   confirming-fits p k g n false e = tt
 
+  previewing-fits : (p : Prin) → StatusRange (Issued p) → (g : Grant) (n : ℕ) (b : Bool) → has g N ≡ b →
+      FoundFits (cond b (found.Asks (Preview p (record { 0 = place g N })) n) (found.Unknown n))
+  previewing-fits p k g n true e = (k, numbered-fits g e)
+  previewing-fits p k g n false e = tt
+
   query-fits : (c : Concl) (n : ℕ) → AllowedConcl 0 0 c → (b : Bool) → fits (numberConcl c N) ≡ b →
       FoundFits (cond b (found.Asks (Query (conclOf (numberConcl c N) c)) n) (found.Full n))
   query-fits c n a true e = let l = number-lt (conclOf (numberConcl c N) c) (concl-closed c N a e) in omega arith
@@ -137,6 +142,7 @@ module _ (N : List Grant) (small : length N ≤ grants) where
   record-fits (enter by g) n a = entering-fits by (a .0) g n (fits (number g N)) refl
   record-fits (remove by g) n a = removing-fits by (firm-status by (a .0)) g n (has g N) refl
   record-fits (confirm p g) n a = confirming-fits p (a .0) g n (has g N) refl
+  record-fits (preview p g) n a = previewing-fits p (a .0) g n (has g N) refl
   record-fits (query c) n a = query-fits c n (a .0) (fits (numberConcl c N)) refl
 
   pub found-fits : (s : List ℕ) → FoundFits (foundOf N (readCanonical s))

@@ -10,25 +10,27 @@ use Rattle.reader.specs.Requests.{numberFound, usedFound, Reads}
 use Rattle.reader.specs.declared.records.Found.{Found}
 use Rattle.reader.specs.declared.records.Found.the-variants as found
 use Rattle.reader.specs.declared.records.Reading.{Reading}
+use Rattle.machine.specs.Machine.{step}
 use Rattle.book.specs.declared.Book.{Book}
 use Rattle.book.specs.declared.Answered.{Answered}
-use Rattle.book.specs.Books.{BookForm}
+use Rattle.book.specs.Books.{Lent}
 use Rattle.book.specs.Calls.{Follows, Called}
-use Rattle.book.specs.inner.Apply.{firmMarks, bothMarks, appliedTo, applied, marksApplied, refusedWith}
+use Rattle.book.specs.inner.Apply.{firmMarks, bothMarks, appliedTo, applied, marksApplied, previewApplied, refusedWith}
 use Rattle.book.proofs.Following.{follows}
 
-pub called-unformed : (b : Book) (m k s : List ℕ) (a : Answered) → (BookForm b m k → ⊥) → a ≡ refusedWith b 9 0 → Called b m k s a m k
-called-unformed b m k s a d e = record { decided = inr d; unformed = λ _. (e, refl, refl); formed = λ f. absurd (d f) }
+pub called-unformed : (b : Book) (m k v s : List ℕ) (a : Answered) → (Lent b m k v → ⊥) → a ≡ refusedWith b 9 0 → Called b m k v s a m k v
+called-unformed b m k v s a d e = record { decided = inr d; unformed = λ _. (e, refl, refl, refl); formed = λ f. absurd (d f) }
 
-pub called-formed : (b : Book) (m k s : List ℕ) (r : Reading) (a : Answered) (n l : List ℕ) → BookForm b m k → Reads s (b .table) r → a ≡ applied b m k r →
-    n ≡ marksApplied firmMarks b m r → l ≡ marksApplied bothMarks b k r → Called b m k s a n l
-called-formed b m k s r a n l f R e h g = record {
+pub called-formed : (b : Book) (m k v s : List ℕ) (r : Reading) (a : Answered) (n l w : List ℕ) → Lent b m k v → Reads s (b .table) r → a ≡ applied b m k r →
+    n ≡ marksApplied firmMarks b m r → l ≡ marksApplied bothMarks b k r → w ≡ previewApplied b v r → Called b m k v s a n l w
+called-formed b m k v s r a n l w f R e h g p = record {
   decided = inl f;
   unformed = λ d. absurd (d f);
   formed = λ _ M sh.
-      subst (λ (x : Answered). Follows M b m k s x n l) (sym e)
-      (subst (λ (x : List ℕ). Follows M b m k s (applied b m k r) x l) (sym h)
-      (subst (λ (x : List ℕ). Follows M b m k s (applied b m k r) (marksApplied firmMarks b m r) x) (sym g) (follows b m k s f r R M sh)));
+      subst (λ (x : Answered). Follows M (step M s) b m k v x n l w) (sym e)
+      (subst (λ (x : List ℕ). Follows M (step M s) b m k v (applied b m k r) x l w) (sym h)
+      (subst (λ (x : List ℕ). Follows M (step M s) b m k v (applied b m k r) (marksApplied firmMarks b m r) x w) (sym g)
+      (subst (λ (x : List ℕ). Follows M (step M s) b m k v (applied b m k r) (marksApplied firmMarks b m r) (marksApplied bothMarks b k r) x) (sym p) (follows b m k v s (f .book) (f .preview) r R M sh))));
 }
 
 -- What the reader turned back is answered with its number and its bytes used, and the book stays.

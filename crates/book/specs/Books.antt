@@ -36,6 +36,12 @@ pub record BookForm (b : Book) (m k : List ℕ) : Type 0 where
   pub apart : FlagsApart (b .flags)
   pub unflagged : Unflagged (b .flags) (b .table .count)
 
+-- Document 02, 6: "A preview buffer not as long as the marks meets refusal 9". Its bytes are not judged. The book, its two buffers and
+-- the preview buffer v that is lent with them:
+pub record Lent (b : Book) (m k v : List ℕ) : Type 0 where
+  pub book : BookForm b m k
+  pub preview : length v ≡ allMarks
+
 -- "The rows below the count, written out, are N in order, and the flags show T and L", and the provisional licences. What stands has a number, and every
 -- issuer is one of the 16.
 pub record Shows (b : Book) (M : State) : Type 0 where

@@ -1,7 +1,7 @@
 use mathlib.Core.Path.{_∙_}
 use native.Mathlib.Omega.{arith}
-use Rattle.book.specs.inner.Apply.{applied, marksApplied}
-use Rattle.book.proofs.Fits.{fits-enter, fits-remove, fits-confirm, fits-query}
+use Rattle.book.specs.inner.Apply.{applied, marksApplied, previewApplied}
+use Rattle.book.proofs.Fits.{fits-enter, fits-remove, fits-confirm, fits-preview, fits-query}
 use Rattle.book.proofs.Acting.{entered-length}
 use borrow.Author.Needs.{needs}
 use Rattle.book.proofs.act.Statement.{statement}
@@ -12,95 +12,117 @@ use Rattle.book.proofs.confirm.Reads as confirm-reads
 use Rattle.book.proofs.entered.Reads as entered-reads
 use Rattle.book.proofs.query.Reads as query-reads
 use Rattle.book.proofs.remove.Reads as remove-reads
+use Rattle.book.proofs.show_removed.Reads as show-removed-reads
 use Rattle.book.proofs.update.Reads as update-reads
 
--- src/lib.rt:214:24
+-- src/lib.rt:259:24
 enum-known-q : tie.Need-enum-known-q
 enum-known-q c = search needs
 
--- src/lib.rt:214:42
+-- src/lib.rt:259:42
 entered-requires : tie.Need-entered-requires
-entered-requires c κs = fits-enter _ ((c .before .before .before .before .before .args) .n) ((c .before .before .before .before .before .pre) .fits) _ _ ((c .before .q) .given .1)
+entered-requires c κs = fits-enter _ (c .before .before .before .before .before .before .args .n) (c .before .before .before .before .before .before .pre .fits) _ _ (c .before .q .given .1)
 
--- src/lib.rt:214:35
+-- src/lib.rt:259:35
 update-requires : tie.Need-update-requires
-update-requires c κs = rw ((c .before .before .entered) .ensures) ((c .before .before .before .before .before .before .before .before .pre) .next, entered-length ((c .before .before .before .before .q) .given .0 .0) ((c .before .before .before .before .q) .given .0 .1 .0 .0) ((c .before .before .before .before .before .before .before .before .args) .b .flags) ((c .before .before .before .before .before .before .before .before .pre) .flags), (c .before .before .before .before .before .before .before .before .pre) .marks, (c .before .before .before .before .before .before .before .before .pre) .second)
+update-requires c κs = rw (c .before .before .entered .ensures) (c .before .before .before .before .before .before .before .before .before .pre .next, entered-length (c .before .before .before .before .q .given .0 .0) (c .before .before .before .before .q .given .0 .1 .0 .0) (c .before .before .before .before .before .before .before .before .before .args .b .flags) (c .before .before .before .before .before .before .before .before .before .pre .flags), c .before .before .before .before .before .before .before .before .before .pre .marks, c .before .before .before .before .before .before .before .before .before .pre .second)
 
--- src/lib.rt:215:25
+-- src/lib.rt:260:25
 enum-known-q-2 : tie.Need-enum-known-q-2
 enum-known-q-2 c = search needs
 
--- src/lib.rt:215:36
+-- src/lib.rt:260:36
 remove-requires : tie.Need-remove-requires
-remove-requires c κs = let h = fits-remove _ ((c .before .before .before .before .before .before .before .args) .n) ((c .before .before .before .before .before .before .before .pre) .fits) _ _ ((c .before .before .before .q2) .given .1) in (h .0, h .1, (c .before .before .before .before .before .before .before .pre) .rows, (c .before .before .before .before .before .before .before .pre) .flags, (c .before .before .before .before .before .before .before .pre) .marks, (c .before .before .before .before .before .before .before .pre) .second)
+remove-requires c κs = let h = fits-remove _ (c .before .before .before .before .before .before .before .before .args .n) (c .before .before .before .before .before .before .before .before .pre .fits) _ _ (c .before .before .before .q2 .given .1) in (h .0, h .1, c .before .before .before .before .before .before .before .before .pre .rows, c .before .before .before .before .before .before .before .before .pre .flags, c .before .before .before .before .before .before .before .before .pre .marks, c .before .before .before .before .before .before .before .before .pre .second)
 
--- src/lib.rt:216:26
+-- src/lib.rt:261:26
 enum-known-q-3 : tie.Need-enum-known-q-3
 enum-known-q-3 c = search needs
 
--- src/lib.rt:216:36
+-- src/lib.rt:261:36
 confirm-requires : tie.Need-confirm-requires
-confirm-requires c κs = let h = fits-confirm _ ((c .before .before .before .before .before .before .before .args) .n) ((c .before .before .before .before .before .before .before .pre) .fits) _ _ ((c .before .before .before .q3) .given .1) in (h .0, h .1, (c .before .before .before .before .before .before .before .pre) .rows, (c .before .before .before .before .before .before .before .pre) .flags, (c .before .before .before .before .before .before .before .pre) .marks, (c .before .before .before .before .before .before .before .pre) .second)
+confirm-requires c κs = let h = fits-confirm _ (c .before .before .before .before .before .before .before .before .args .n) (c .before .before .before .before .before .before .before .before .pre .fits) _ _ (c .before .before .before .q3 .given .1) in (h .0, h .1, c .before .before .before .before .before .before .before .before .pre .rows, c .before .before .before .before .before .before .before .before .pre .flags, c .before .before .before .before .before .before .before .before .pre .marks, c .before .before .before .before .before .before .before .before .pre .second)
 
--- src/lib.rt:217:24
+-- src/lib.rt:262:26
 enum-known-q-4 : tie.Need-enum-known-q-4
 enum-known-q-4 c = search needs
 
--- src/lib.rt:217:30
-query-requires : tie.Need-query-requires
-query-requires c κs = let m = (c .before .before .before .before .before .before .before .pre) .marks in let k = (c .before .before .before .before .before .before .before .pre) .second in let l = fits-query _ ((c .before .before .before .before .before .before .before .args) .n) ((c .before .before .before .before .before .before .before .pre) .fits) _ ((c .before .before .before .q4) .given .1) in (omega arith, omega arith)
+-- src/lib.rt:262:36
+show-removed-requires : tie.Need-show-removed-requires
+show-removed-requires c κs = let h = fits-preview _ (c .before .before .before .before .before .before .before .before .args .n) (c .before .before .before .before .before .before .before .before .pre .fits) _ _ (c .before .before .before .q4 .given .1) in (h .0, h .1, c .before .before .before .before .before .before .before .before .pre .rows, c .before .before .before .before .before .before .before .before .pre .flags, c .before .before .before .before .before .before .before .before .pre .marks, c .before .before .before .before .before .before .before .before .pre .preview)
 
--- src/lib.rt:207:1
+-- src/lib.rt:263:24
+enum-known-q-5 : tie.Need-enum-known-q-5
+enum-known-q-5 c = search needs
+
+-- src/lib.rt:263:30
+query-requires : tie.Need-query-requires
+query-requires c κs = let m = c .before .before .before .before .before .before .before .before .pre .marks in let k = c .before .before .before .before .before .before .before .before .pre .second in let l = fits-query _ (c .before .before .before .before .before .before .before .before .args .n) (c .before .before .before .before .before .before .before .before .pre .fits) _ (c .before .before .before .q5 .given .1) in (omega arith, omega arith)
+
+-- src/lib.rt:243:1
 same-length : tie.Need-same-length
 same-length c = search needs
 
--- src/lib.rt:207:1
+-- src/lib.rt:243:1
 same-length-2 : tie.Need-same-length-2
 same-length-2 c = search needs
 
--- src/lib.rt:207:1
+-- src/lib.rt:243:1
 returns : tie.Need-returns
-unfolding applied marksApplied
-returns c = (rw ((c .before .before .before .before .before .before .before .before .before .q) .given .1) ((c .before .before .before .before .update) .ensures .0 ∙ rw ((c .before .before .before .before .before .before .before .entered) .ensures)), (rw ((c .before .before .before .before .before .before .before .before .before .q) .given .1) ((c .before .before .before .before .update) .ensures .1 ∙ rw ((c .before .before .before .before .before .before .before .entered) .ensures)), rw ((c .before .before .before .before .before .before .before .before .before .q) .given .1) ((c .before .before .before .before .update) .ensures .2 ∙ rw ((c .before .before .before .before .before .before .before .entered) .ensures))))
+unfolding applied marksApplied previewApplied
+returns c = (rw (c .before .before .before .before .before .before .before .before .before .q .given .1) (c .before .before .before .before .update .ensures .0 ∙ rw (c .before .before .before .before .before .before .before .entered .ensures)), (rw (c .before .before .before .before .before .before .before .before .before .q .given .1) (c .before .before .before .before .update .ensures .1 ∙ rw (c .before .before .before .before .before .before .before .entered .ensures)), (rw (c .before .before .before .before .before .before .before .before .before .q .given .1) (c .before .before .before .before .update .ensures .2 ∙ rw (c .before .before .before .before .before .before .before .entered .ensures)), rw (c .before .before .before .before .before .before .before .before .before .q .given .1))))
 
--- src/lib.rt:207:1
+-- src/lib.rt:243:1
 same-length-3 : tie.Need-same-length-3
 same-length-3 c = search needs
 
--- src/lib.rt:207:1
+-- src/lib.rt:243:1
 same-length-4 : tie.Need-same-length-4
 same-length-4 c = search needs
 
--- src/lib.rt:207:1
+-- src/lib.rt:243:1
 returns-2 : tie.Need-returns-2
-unfolding applied marksApplied
-returns-2 c = (rw ((c .before .before .before .before .before .before .before .before .q2) .given .1) ((c .before .before .before .before .remove) .ensures .0), (rw ((c .before .before .before .before .before .before .before .before .q2) .given .1) ((c .before .before .before .before .remove) .ensures .1 .0), rw ((c .before .before .before .before .before .before .before .before .q2) .given .1) ((c .before .before .before .before .remove) .ensures .1 .1)))
+unfolding applied marksApplied previewApplied
+returns-2 c = (rw (c .before .before .before .before .before .before .before .before .q2 .given .1) (c .before .before .before .before .remove .ensures .0), (rw (c .before .before .before .before .before .before .before .before .q2 .given .1) (c .before .before .before .before .remove .ensures .1 .0), (rw (c .before .before .before .before .before .before .before .before .q2 .given .1) (c .before .before .before .before .remove .ensures .1 .1), rw (c .before .before .before .before .before .before .before .before .q2 .given .1))))
 
--- src/lib.rt:207:1
+-- src/lib.rt:243:1
 same-length-5 : tie.Need-same-length-5
 same-length-5 c = search needs
 
--- src/lib.rt:207:1
+-- src/lib.rt:243:1
 same-length-6 : tie.Need-same-length-6
 same-length-6 c = search needs
 
--- src/lib.rt:207:1
+-- src/lib.rt:243:1
 returns-3 : tie.Need-returns-3
-unfolding applied marksApplied
-returns-3 c = (rw ((c .before .before .before .before .before .before .before .before .q3) .given .1) ((c .before .before .before .before .confirm) .ensures .0), (rw ((c .before .before .before .before .before .before .before .before .q3) .given .1) ((c .before .before .before .before .confirm) .ensures .1 .0), rw ((c .before .before .before .before .before .before .before .before .q3) .given .1) ((c .before .before .before .before .confirm) .ensures .1 .1)))
+unfolding applied marksApplied previewApplied
+returns-3 c = (rw (c .before .before .before .before .before .before .before .before .q3 .given .1) (c .before .before .before .before .confirm .ensures .0), (rw (c .before .before .before .before .before .before .before .before .q3 .given .1) (c .before .before .before .before .confirm .ensures .1 .0), (rw (c .before .before .before .before .before .before .before .before .q3 .given .1) (c .before .before .before .before .confirm .ensures .1 .1), rw (c .before .before .before .before .before .before .before .before .q3 .given .1))))
 
--- src/lib.rt:207:1
+-- src/lib.rt:243:1
 same-length-7 : tie.Need-same-length-7
 same-length-7 c = search needs
 
--- src/lib.rt:207:1
+-- src/lib.rt:243:1
 same-length-8 : tie.Need-same-length-8
 same-length-8 c = search needs
 
--- src/lib.rt:207:1
+-- src/lib.rt:243:1
 returns-4 : tie.Need-returns-4
-unfolding applied marksApplied
-returns-4 c = (rw ((c .before .before .before .before .q4) .given .1) ((c .query) .ensures), (rw ((c .before .before .before .before .q4) .given .1), rw ((c .before .before .before .before .q4) .given .1)))
+unfolding applied marksApplied previewApplied
+returns-4 c = (rw (c .before .before .before .before .before .before .q4 .given .1) (c .before .before .show-removed .ensures .0), (rw (c .before .before .before .before .before .before .q4 .given .1), (rw (c .before .before .before .before .before .before .q4 .given .1), rw (c .before .before .before .before .before .before .q4 .given .1) (c .before .before .show-removed .ensures .1))))
+
+-- src/lib.rt:243:1
+same-length-9 : tie.Need-same-length-9
+same-length-9 c = search needs
+
+-- src/lib.rt:243:1
+same-length-10 : tie.Need-same-length-10
+same-length-10 c = search needs
+
+-- src/lib.rt:243:1
+returns-5 : tie.Need-returns-5
+unfolding applied marksApplied previewApplied
+returns-5 c = (rw (c .before .before .before .before .q5 .given .1) (c .query .ensures), (rw (c .before .before .before .before .q5 .given .1), (rw (c .before .before .before .before .q5 .given .1), rw (c .before .before .before .before .q5 .given .1))))
 
 pub act-spec : {M : Type 1} → statement M
 act-spec =
@@ -114,6 +136,8 @@ act-spec =
     enum-known-q-3
     confirm-requires
     enum-known-q-4
+    show-removed-requires
+    enum-known-q-5
     query-requires
     same-length
     same-length-2
@@ -126,4 +150,7 @@ act-spec =
     returns-3
     same-length-7
     same-length-8
-    returns-4)
+    returns-4
+    same-length-9
+    same-length-10
+    returns-5)
