@@ -8,6 +8,7 @@ use borrow.Author.Tests.{le-leb}
 use lib.IntN.{pos, _-ℤ_}
 use lib.ListN.{length}
 use Rattle.sorts.specs.declared.Prin.{Prin}
+use Rattle.sorts.specs.Numbers.{allMarks}
 use Rattle.sorts.specs.declared.Status.{Status}
 use Rattle.sorts.specs.declared.Status.the-variants.{Issued, Provisional}
 use Rattle.rows.specs.Written.{Grant}
@@ -16,7 +17,7 @@ use Rattle.rows.proofs.Known.{numbered-known}
 use Rattle.ranges.specs.Bytes.{got}
 use Rattle.reader.specs.Records.{enter, readCanonical}
 use Rattle.reader.specs.Requests.{fits}
-use Rattle.machine.specs.Machine.{State, Verdict, Step, changes, change, refuse, act, acted, step, entered, stands}
+use Rattle.machine.specs.Machine.{State, Verdict, Step, changes, change, refuse, act, acted, step, feed, entered, stands}
 use Rattle.machine.proofs.Apart.{Apart, entered-firm, entered-present}
 use Rattle.machine.proofs.Flags.{flags-apart}
 use Rattle.blocks.specs.Gains.{gains}
@@ -30,20 +31,23 @@ use Rattle.demands.specs.Worth.{unchanged, noCounts}
 use Rattle.demands.proofs.Balance.{none-gained, kind-bits}
 use Rattle.demands.proofs.ClosedBook.{shown}
 use Rattle.demands.proofs.Views.{firm, both, marksIn}
-use Rattle.demands.proofs.Reached.{Reached, fol, reached-after}
+use Rattle.demands.proofs.Reached.{Reached, fed-whole, fol, reached-after}
 use Rattle.demands.proofs.Unique.{same-book}
 
-module _ {b : Book} {m k s : List ℕ} {r : Answered} {n l : List ℕ} {M : State} (R : Reached b m k M) (C : Called b m k s r n l) where
+module _ {b : Book} {m k v s : List ℕ} {r : Answered} {n l w : List ℕ} {M : State} (R : Reached b m k M) (C : Called b m k v s r n l w) (whole : length v ≡ allMarks) where
   -- The book and both buffers stay, and nothing is counted.
   abbrev Idle : Type 0
   Idle = (r .book ≡ b) × (n ≡ m) × (l ≡ k) × (r .answer ≡ Changed noCounts)
+
+  fed : feed M (length v) s ≡ step M s
+  fed = fed-whole M (length v) s whole
 
   idle : step M s .says ≡ changes → step M s .next ≡ M → Idle
   unfolding answerOf countsOf changeOf
   idle e h =
       let F = fol R C in
       let A = reached-after R C in
-      let book : r .book ≡ b = same-book (F .form) (R .form) (subst (Shows (r .book)) h (F .shows)) (R .shows) in
+      let book : r .book ≡ b = same-book (F .form) (R .form) (subst (Shows (r .book)) (ap (λ (x : Step). x .next) fed ∙ h) (F .shows)) (R .shows) in
       let marks : n ≡ m = A .stands ∙ ap (marksIn firm) book ∙ sym (R .stands) in
       let second : l ≡ k = A .second ∙ ap (marksIn both) book ∙ sym (R .second) in
       let z : (j : Statements) → gains (marksOf j m) (marksOf j m) ≡ 0 = λ j. none-gained (marksOf j m) (marksOf j m) (kind-bits j m (R .form .marks .bits)) (kind-bits j m (R .form .marks .bits)) (λ i x. x) in
@@ -51,7 +55,7 @@ module _ {b : Book} {m k s : List ℕ} {r : Answered} {n l : List ℕ} {M : Stat
         book,
         marks,
         second,
-        F .answer ∙ ap (λ (v : Verdict). answerOf v m k n) e ∙ ap (λ (x : List ℕ). Changed (countsOf m x)) marks ∙
+        F .answer ∙ ap (λ (y : Verdict). answerOf y m k n w) (ap (λ (x : Step). x .says) fed ∙ e) ∙ ap (λ (x : List ℕ). Changed (countsOf m x)) marks ∙
             (λ i. Changed (record { truths = same truths i; sayings = same sayings i })),
       )
 

@@ -6,24 +6,27 @@ use mathlib.Core.Bool.{Bool, true, false, cond}
 use mathlib.Core.List.{List, [], _∷_}
 use mathlib.Core.Logic.{_⊎_, inl, inr}
 use native.Mathlib.Omega.{arith}
+use lib.Dec.{eqb}
+use lib.ListN.{length}
 use Rattle.sorts.specs.declared.Prin.{Prin}
+use Rattle.sorts.specs.Numbers.{allMarks}
 use Rattle.sorts.specs.declared.Status.{Status}
-use Rattle.sorts.specs.declared.Status.the-variants.{Provisional}
+use Rattle.sorts.specs.declared.Status.the-variants.{Issued, Provisional}
 use Rattle.rows.specs.Written.{Grant, perm, issue}
 use Rattle.rows.specs.Numbering.{place, number, numberConcl}
 use Rattle.ranges.specs.Bytes.{Outcome, got, refused}
 use Rattle.canon.specs.Canon.{canon, same}
 use Rattle.canon.proofs.Sets.{same-canon}
-use Rattle.reader.specs.Records.{Record, enter, remove, confirm, query, readRecord, readCanonical, canonRecord}
+use Rattle.reader.specs.Records.{Record, enter, remove, confirm, preview, query, readRecord, readCanonical, canonRecord}
 use Rattle.reader.specs.Requests.{fits}
 use Rattle.exact.proofs.CanonicalRecords.{canonical-of}
 use Rattle.book.specs.declared.Book.{Book}
 use Rattle.book.specs.declared.Answer.{Answer}
 use Rattle.book.specs.declared.Answered.{Answered}
-use Rattle.machine.specs.Machine.{State, Verdict, Step, act, acted, step, stands, there}
-use Rattle.book.specs.Books.{BookForm, Shows}
-use Rattle.book.specs.Calls.{answerOf, marksAfter, secondAfter, Called}
-use Rattle.book.specs.Chains.{Call, Chain, none, then, records, runs}
+use Rattle.machine.specs.Machine.{State, Verdict, Step, changes, previews, asks, refuses, refuse, act, acted, step, feed, stands, there}
+use Rattle.book.specs.Books.{Lent, Shows}
+use Rattle.book.specs.Calls.{answerOf, marksAfter, secondAfter, previewAfter, Called}
+use Rattle.book.specs.Chains.{Call, Chain, none, then, Fed, records, runs}
 use Rattle.demands.specs.Alike.{asked, Alike, AllAlike, answered}
 use Rattle.demands.proofs.Shown.{shows-some}
 use Rattle.demands.proofs.Unique.{same-book}
@@ -41,6 +44,9 @@ module _ (s t : List ℕ) (g h : Grant) (m n : ℕ) (e : same g h ≡ true) wher
 
   pub alike-confirm : (p : Prin) → readRecord s ≡ got (confirm p g) m → readRecord t ≡ got (confirm p h) n → Alike s t
   alike-confirm p = alike-at (confirm p) (ap (confirm p) (same-canon g h e))
+
+  pub alike-preview : (p : Prin) → readRecord s ≡ got (preview p g) m → readRecord t ≡ got (preview p h) n → Alike s t
+  alike-preview p = alike-at (preview p) (ap (preview p) (same-canon g h e))
 
   pub alike-query : (p : ℕ) → readRecord s ≡ got (query (perm p (issue g))) m → readRecord t ≡ got (query (perm p (issue h))) n → Alike s t
   unfolding canon
@@ -68,6 +74,7 @@ unfolding act
 act-same M (enter by g) m n = picked (fits (number g (M .N))) _ _ _ _ itself itself
 act-same M (remove by g) m n = picked (there by g (M .entries)) _ _ _ _ itself itself
 act-same M (confirm p g) m n = picked (stands M (Provisional p) g) _ _ _ _ itself itself
+act-same M (preview p g) m n = picked (there (Issued p) g (M .entries)) _ _ _ _ itself itself
 act-same M (query c) m n = picked (fits (numberConcl c (M .N))) _ _ _ _ itself itself
 
 acted-same : (M : State) (o p : Outcome Record) → asked o ≡ asked p → SameStep (acted M o) (acted M p)
@@ -80,33 +87,52 @@ step-same : (M : State) (s t : List ℕ) → Alike s t → SameStep (step M s) (
 unfolding step
 step-same M s t e = acted-same M (readCanonical s) (readCanonical t) e
 
+feed-same : (M : State) (u v : ℕ) (s t : List ℕ) → u ≡ v → Alike s t → SameStep (feed M u s) (feed M v t)
+unfolding feed
+feed-same M u v s t d e = subst (λ (x : ℕ). SameStep (cond (eqb u allMarks) (step M s) (refuse M 9 0)) (cond (eqb x allMarks) (step M t) (refuse M 9 0))) d (picked (eqb u allMarks) _ _ _ _ (step-same M s t e) itself)
+
 -- the machine, fed lists of records that are alike
-pub runs-alike : (M : State) (ss ts : List (List ℕ)) → AllAlike ss ts → runs M ss ≡ runs M ts
+pub runs-alike : (M : State) (ss ts : List Fed) → AllAlike ss ts → runs M ss ≡ runs M ts
 unfolding runs
 runs-alike M [] [] h = refl
 runs-alike M [] (t ∷ ts) h = absurd h
 runs-alike M (s ∷ ss) [] h = absurd h
-runs-alike M (s ∷ ss) (t ∷ ts) h = ap (λ (K : State). runs K ss) (step-same M s t (h .0) .next) ∙ runs-alike (step M t .next) ss ts (h .1)
+runs-alike M (s ∷ ss) (t ∷ ts) h =
+    ap (λ (K : State). runs K ss) (feed-same M (s .room) (t .room) (s .bytes) (t .bytes) (h .0) (h .1) .next) ∙ runs-alike (feed M (t .room) (t .bytes) .next) ss ts (h .2)
 
--- Two calls on one book, in form or not: the answers, books and marks are the same.
+-- what is previewed does not depend on the bytes that are lent
+previewed-alike : (y : Verdict) (M : State) (b : Book) (m k n v v′ : List ℕ) → answerOf y m k n (previewAfter y M b v) ≡ answerOf y m k n (previewAfter y M b v′)
+unfolding answerOf previewAfter
+previewed-alike changes M b m k n v v′ = refl
+previewed-alike (previews p g) M b m k n v v′ = refl
+previewed-alike (asks c) M b m k n v v′ = refl
+previewed-alike (refuses j) M b m k n v v′ = refl
+
+-- Two calls on one book, in form or not, with preview buffers of one length: the answers, books and marks are the same.
 pub record SameCall (r r′ : Answered) (n n′ l l′ : List ℕ) : Type 0 where
   pub book : r .book ≡ r′ .book
   pub answer : r .answer ≡ r′ .answer
   pub marks : n ≡ n′
   pub second : l ≡ l′
 
-module _ (b : Book) (m k s t : List ℕ) (e : Alike s t) (r r′ : Answered) (n n′ l l′ : List ℕ) (C : Called b m k s r n l) (D : Called b m k t r′ n′ l′) where
-  formed : (M : State) → BookForm b m k → Shows b M → SameCall r r′ n n′ l l′
+module _ (b : Book) (m k v v′ s t : List ℕ) (len : length v ≡ length v′) (e : Alike s t) (r r′ : Answered) (n n′ l l′ w w′ : List ℕ) (C : Called b m k v s r n l w) (D : Called b m k v′ t r′ n′ l′ w′) where
+  other : Lent b m k v → Lent b m k v′
+  other f = record { book = f .book; preview = sym len ∙ f .preview }
+
+  formed : (M : State) → Lent b m k v → Shows b M → SameCall r r′ n n′ l l′
   formed M f sh =
       let F = C .formed f M sh in
-      let G = D .formed f M sh in
+      let G = D .formed (other f) M sh in
       let S = step-same M s t e in
       let book : r .book ≡ r′ .book = same-book (F .form) (G .form) (F .shows) (subst (Shows (r′ .book)) (sym (S .next)) (G .shows)) in
-      let marks : n ≡ n′ = F .marks ∙ ap₂ (λ (v : Verdict) (x : Book). marksAfter v x m) (S .says) book ∙ sym (G .marks) in
-      let second : l ≡ l′ = F .second ∙ ap₂ (λ (v : Verdict) (x : Book). secondAfter v x k) (S .says) book ∙ sym (G .second) in
+      let marks : n ≡ n′ = F .marks ∙ ap₂ (λ (y : Verdict) (x : Book). marksAfter y x m) (S .says) book ∙ sym (G .marks) in
+      let second : l ≡ l′ = F .second ∙ ap₂ (λ (y : Verdict) (x : Book). secondAfter y x k) (S .says) book ∙ sym (G .second) in
+      let y = step M s .says in
       record {
         book = book;
-        answer = F .answer ∙ ap₂ (λ (v : Verdict) (x : List ℕ). answerOf v m k x) (S .says) marks ∙ sym (G .answer);
+        answer =
+            F .answer ∙ ap (answerOf y m k n) (F .preview) ∙ previewed-alike y M b m k n v v′ ∙
+            ap₂ (λ (z : Verdict) (x : List ℕ). answerOf z m k x (previewAfter z M b v′)) (S .says) marks ∙ ap (answerOf (step M t .says) m k n′) (sym (G .preview)) ∙ sym (G .answer);
         marks = marks;
         second = second;
       }
@@ -114,11 +140,11 @@ module _ (b : Book) (m k s t : List ℕ) (e : Alike s t) (r r′ : Answered) (n 
   pub alike-call : SameCall r r′ n n′ l l′
   alike-call = by (C .decided)
     where
-      by : BookForm b m k ⊎ (BookForm b m k → ⊥) → SameCall r r′ n n′ l l′
-      by (inl f) = let w = shows-some b m k f in formed (w .0) f (w .1)
+      by : Lent b m k v ⊎ (Lent b m k v → ⊥) → SameCall r r′ n n′ l l′
+      by (inl f) = let x = shows-some b m k (f .book) in formed (x .0) f (x .1)
       by (inr d) =
           let x = C .unformed d in
-          let y = D .unformed d in
+          let y = D .unformed (λ f. d (record { book = f .book; preview = len ∙ f .preview })) in
           let z : r ≡ r′ = x .0 ∙ sym (y .0) in
           record {
             book = ap (λ (a : Answered). a .book) z;
@@ -132,12 +158,12 @@ pub alike-calls : {b b′ b″ : Book} {m m′ m″ k k′ k″ : List ℕ} {cs 
     (b′ ≡ b″) × (m′ ≡ m″) × (k′ ≡ k″) × (answered cs ≡ answered ds)
 unfolding records answered
 alike-calls none none h = (refl, refl, refl, refl)
-alike-calls none (then t r′ n′ l′ D L) h = absurd h
-alike-calls (then s r n l C K) none h = absurd h
-alike-calls {b} {b′} {b″} {m} {m′} {m″} {k} {k′} {k″} (then {cs = cs} s r n l C K) (then {cs = ds} t r′ n′ l′ D L) h =
-    let S = alike-call b m k s t (h .0) r r′ n n′ l l′ C D in
+alike-calls none (then t v′ r′ n′ l′ w′ D L) h = absurd h
+alike-calls (then s v r n l w C K) none h = absurd h
+alike-calls {b} {b′} {b″} {m} {m′} {m″} {k} {k′} {k″} (then {cs = cs} s v r n l w C K) (then {cs = ds} t v′ r′ n′ l′ w′ D L) h =
+    let S = alike-call b m k v v′ s t (h .0) (h .1) r r′ n n′ l l′ w w′ C D in
     let L′ : Chain (r .book) n l ds b″ m″ k″ =
     subst (λ (x : Book). Chain x n l ds b″ m″ k″) (sym (S .book))
     (subst (λ (x : List ℕ). Chain (r′ .book) x l ds b″ m″ k″) (sym (S .marks)) (subst (λ (x : List ℕ). Chain (r′ .book) n′ x ds b″ m″ k″) (sym (S .second)) L)) in
-    let z = alike-calls K L′ (h .1) in
+    let z = alike-calls K L′ (h .2) in
     (z .0, z .1, z .2, ap₂ (λ (a : Answer) (l : List Answer). a ∷ l) (S .answer) (z .3))

@@ -5,16 +5,16 @@ use mathlib.Core.Bool.{Bool, cond}
 use mathlib.Core.List.{List}
 use mathlib.Core.Logic.{_↔_}
 use native.Mathlib.Decide.{ℕ-discrete}
-use lib.ListN.{getD}
+use lib.ListN.{length, getD}
 use lib.Dec.{eqb}
 use borrow.Author.Tests.{eq-eqb, ne-eqb}
 use Rattle.rules.specs.Standing.{In}
-use Rattle.machine.specs.Machine.{State, Verdict, asks, start, step}
+use Rattle.machine.specs.Machine.{State, Verdict, asks, start, feed}
 use Rattle.machine.specs.Closed.{ClosedSet, Lacking}
 use Rattle.machine.proofs.Choices.{permitted-none, not-permitted-all, open-both}
 use Rattle.book.specs.declared.Book.{Book}
 use Rattle.book.specs.declared.Answer.{Answer}
-use Rattle.book.specs.declared.Answer.the-variants.{Permitted, Open, NotPermitted, Changed, Refused}
+use Rattle.book.specs.declared.Answer.the-variants.{Permitted, Open, NotPermitted, Changed, Previewed, Refused}
 use Rattle.book.specs.declared.Answered.{Answered}
 use Rattle.book.specs.Calls.{answerAt, answerOf, marksAfter, secondAfter, Called}
 use Rattle.book.specs.Chains.{freshBook, freshMarks, Call, Chain, records, runs}
@@ -35,6 +35,7 @@ module _ (x y : ℕ) where
   Meaning Open = (x ≡ 1 → ⊥) × (y ≡ 1)
   Meaning NotPermitted = (x ≡ 1 → ⊥) × (y ≡ 1 → ⊥)
   Meaning (Changed c) = ⊥
+  Meaning (Previewed c) = ⊥
   Meaning (Refused j) = ⊥
 
   pub answer-permitted : x ≡ 1 → answer ≡ Permitted
@@ -77,18 +78,18 @@ module _ {b : Book} {m k : List ℕ} {M : State} (R : Reached b m k M) (v : View
 -- An accepted query on a book reached from a fresh one by its calls is permitted exactly when under every choice each closed set
 -- contains the conclusion, not permitted exactly when under each choice some closed set lacks it, and open exactly when it stands
 -- under one choice and is lacking under another.
-pub demand-2 : (cs : List Call) (b : Book) (m k : List ℕ) → Chain freshBook freshMarks freshMarks cs b m k → (s : List ℕ) (r : Answered) (n l : List ℕ) → Called b m k s r n l →
-    (c : ℕ) → step (runs start (records cs)) s .says ≡ asks c → Demand2 (step (runs start (records cs)) s .next) c (r .answer)
+pub demand-2 : (cs : List Call) (b : Book) (m k : List ℕ) → Chain freshBook freshMarks freshMarks cs b m k → (s v : List ℕ) (r : Answered) (n l w : List ℕ) → Called b m k v s r n l w →
+    (c : ℕ) → feed (runs start (records cs)) (length v) s .says ≡ asks c → Demand2 (feed (runs start (records cs)) (length v) s .next) c (r .answer)
 unfolding answerOf marksAfter secondAfter
-demand-2 cs b m k K s r n l C c e =
+demand-2 cs b m k K s v r n l w C c e =
     let R = after fresh-reached K .reached in
     let F = fol R C in
     let R′ = reached-after R C in
-    let M′ = step (runs start (records cs)) s .next in
-    let a : r .answer ≡ answerAt m k c = F .answer ∙ ap (λ (v : Verdict). answerOf v m k n) e in
-    let w : m ≡ marksIn firm (r .book) = sym (F .marks ∙ ap (λ (v : Verdict). marksAfter v (r .book) m) e) ∙ R′ .stands in
-    let z : k ≡ marksIn both (r .book) = sym (F .second ∙ ap (λ (v : Verdict). secondAfter v (r .book) k) e) ∙ R′ .second in
-    let first = mark-stands R′ firm m w c in
+    let M′ = feed (runs start (records cs)) (length v) s .next in
+    let a : r .answer ≡ answerAt m k c = F .answer ∙ ap (λ (y : Verdict). answerOf y m k n w) e in
+    let x : m ≡ marksIn firm (r .book) = sym (F .marks ∙ ap (λ (y : Verdict). marksAfter y (r .book) m) e) ∙ R′ .stands in
+    let z : k ≡ marksIn both (r .book) = sym (F .second ∙ ap (λ (y : Verdict). secondAfter y (r .book) k) e) ∙ R′ .second in
+    let first = mark-stands R′ firm m x c in
     let second = mark-stands R′ both k z c in
     let P = permitted-none M′ c in
     let O = open-both M′ c in
@@ -99,12 +100,12 @@ demand-2 cs b m k K s r n l C c e =
         λ h. a ∙ answer-yes (getD m c 0) (getD k c 0) .1 (first .1 (P .0 h)),
       );
       undecided = (
-        λ h. let t = answer-maybe (getD m c 0) (getD k c 0) .0 (sym a ∙ h) in O .1 (second .0 (t .1), unmarked-lacking R′ firm m w c (t .0)),
-        λ h. let t = O .0 h in a ∙ answer-maybe (getD m c 0) (getD k c 0) .1 (lacking-unmarked R′ firm m w c (t .1), second .1 (t .0)),
+        λ h. let t = answer-maybe (getD m c 0) (getD k c 0) .0 (sym a ∙ h) in O .1 (second .0 (t .1), unmarked-lacking R′ firm m x c (t .0)),
+        λ h. let t = O .0 h in a ∙ answer-maybe (getD m c 0) (getD k c 0) .1 (lacking-unmarked R′ firm m x c (t .1), second .1 (t .0)),
       );
       notPermitted = (
         λ h. D .1 (unmarked-lacking R′ both k z c (answer-no (getD m c 0) (getD k c 0) .0 (sym a ∙ h) .1)),
-        λ h. a ∙ answer-no (getD m c 0) (getD k c 0) .1 (lacking-unmarked R′ firm m w c (h (choiceOf firm)), lacking-unmarked R′ both k z c (D .0 h)),
+        λ h. a ∙ answer-no (getD m c 0) (getD k c 0) .1 (lacking-unmarked R′ firm m x c (h (choiceOf firm)), lacking-unmarked R′ both k z c (D .0 h)),
       );
     }
 

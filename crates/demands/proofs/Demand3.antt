@@ -4,12 +4,13 @@ use mathlib.Core.Path.{_≡_, refl, sym, subst}
 use mathlib.Core.List.{List}
 use mathlib.Core.Logic.{_↔_}
 use native.Mathlib.Omega.{arith}
-use lib.ListN.{replicate}
+use lib.ListN.{length, replicate}
+use native.Mathlib.Decide.{ℕ-discrete}
 use Rattle.sorts.specs.Numbers.{allMarks}
 use Rattle.ranges.specs.Bytes.{Outcome, got, refused}
-use Rattle.reader.specs.Records.{Record, enter, remove, confirm, query, readCanonical}
+use Rattle.reader.specs.Records.{Record, enter, remove, confirm, preview, query, readCanonical}
 use Rattle.rules.specs.Standing.{In}
-use Rattle.machine.specs.Machine.{State, step}
+use Rattle.machine.specs.Machine.{State, Step, start, step, feed}
 use Rattle.machine.specs.Closed.{Stands}
 use Rattle.marks.specs.Counts.{Statements, truths, sayings, ones, marksOf}
 use Rattle.book.specs.declared.Book.{Book}
@@ -21,9 +22,9 @@ use Rattle.demands.specs.Demands.{Agrees, NoLoss, NoGain, OneWay, AllOne
 use Rattle.demands.proofs.Balance.{ones-none, ones-kinds}
 use Rattle.demands.proofs.Views.{View, firm, both, choiceOf, marksIn}
 use Rattle.demands.proofs.ClosedBook.{stands-in}
-use Rattle.demands.proofs.Moving.{Moved, moved, Still}
+use Rattle.demands.proofs.Moving.{Moved, moved, Up, Down, Still, same-state}
 use Rattle.demands.proofs.Standings.{both-more}
-use Rattle.demands.proofs.Reached.{Reached, fresh-reached, fol, reached-after, call-balance, no-loss, no-gain}
+use Rattle.demands.proofs.Reached.{Reached, fresh-reached, fed-whole, fed-other, fol, reached-after, call-balance, no-loss, no-gain}
 
 -- what holds after a list of calls from a book that was reached
 pub record After (M : State) (m₀ : List ℕ) (cs : List Call) (b : Book) (m k : List ℕ) : Type 0 where
@@ -32,32 +33,56 @@ pub record After (M : State) (m₀ : List ℕ) (cs : List Call) (b : Book) (m k 
   pub sums : (j : Statements) → allGains j cs + ones (marksOf j m₀) ≡ allLosses j cs + ones (marksOf j m)
   pub oneWay : AllOneWay cs
 
-module _ {b : Book} {m k s : List ℕ} {r : Answered} {n l : List ℕ} {M : State} (R : Reached b m k M) (C : Called b m k s r n l) where
+module _ {b : Book} {m k v s : List ℕ} {r : Answered} {n l w : List ℕ} {M : State} (R : Reached b m k M) (C : Called b m k v s r n l w) where
   abbrev this : Call
-  this = record { record′ = s; before = b; marks = m; second = k; gave = r; left = n; leftSecond = l }
+  this = record { record′ = s; before = b; marks = m; second = k; preview = v; gave = r; left = n; leftSecond = l; leftPreview = w }
 
-  both-still : Still M (step M s .next) → (NoLoss this) × (NoGain this)
+  both-still : Still M (feed M (length v) s .next) → (NoLoss this) × (NoGain this)
   both-still u = (no-loss R C (record { grows = u .grows; ext = u .ext }), no-gain R C (record { shrinks = u .shrinks; ext = u .ext }))
 
+  -- a call that is refused does neither, whatever its record
+  neither : (o : Outcome Record) → (NoLoss this) × (NoGain this) → OneWay o this
+  neither (got (enter by g) u) h = h .0
+  neither (got (remove by g) u) h = h .1
+  neither (got (confirm p g) u) h = h .0
+  neither (got (preview p g) u) h = h
+  neither (got (query c) u) h = h
+  neither (refused j) h = h
+
   -- a call goes one way, by its record
-  one-way : (o : Outcome Record) → readCanonical s ≡ o → Moved M o → OneWay o this
-  unfolding step
-  one-way (got (enter by g) u) e h = no-loss R C (rw e h)
-  one-way (got (remove by g) u) e h = no-gain R C (rw e h)
-  one-way (got (confirm p g) u) e h = no-loss R C (rw e h)
-  one-way (got (query c) u) e h = both-still (rw e h)
-  one-way (refused j) e h = both-still (rw e h)
+  module _ (e : feed M (length v) s ≡ step M s) where
+    fed-up : Up M (step M s .next) → Up M (feed M (length v) s .next)
+    fed-up u = subst (λ (x : Step). Up M (x .next)) (sym e) u
+
+    fed-down : Down M (step M s .next) → Down M (feed M (length v) s .next)
+    fed-down u = subst (λ (x : Step). Down M (x .next)) (sym e) u
+
+    fed-still : Still M (step M s .next) → Still M (feed M (length v) s .next)
+    fed-still u = subst (λ (x : Step). Still M (x .next)) (sym e) u
+
+    accepted : (o : Outcome Record) → readCanonical s ≡ o → Moved M o → OneWay o this
+    unfolding step
+    accepted (got (enter by g) u) q h = no-loss R C (fed-up (rw q h))
+    accepted (got (remove by g) u) q h = no-gain R C (fed-down (rw q h))
+    accepted (got (confirm p g) u) q h = no-loss R C (fed-up (rw q h))
+    accepted (got (preview p g) u) q h = both-still (fed-still (rw q h))
+    accepted (got (query c) u) q h = both-still (fed-still (rw q h))
+    accepted (refused j) q h = both-still (fed-still (rw q h))
+
+  pub one-way : Dec (length v ≡ allMarks) → OneWay (readCanonical s) this
+  one-way (yes e) = accepted (fed-whole M (length v) s e) (readCanonical s) refl (moved M (readCanonical s))
+  one-way (no d) = neither (readCanonical s) (both-still (subst (λ (x : Step). Still M (x .next)) (sym (fed-other M (length v) s d)) (same-state M)))
 
 pub after : {b b′ : Book} {m m′ k k′ : List ℕ} {cs : List Call} {M : State} → Reached b m k M → Chain b m k cs b′ m′ k′ → After M m cs b′ m′ k′
 unfolding runs records Agrees AllOneWay allGains allLosses
 after R none = record { reached = R; answers = tt; sums = λ j. refl; oneWay = tt }
-after {b} {b′} {m} {m′} {k} {k′} {M = M} R (then s r n l C K) =
+after {b} {b′} {m} {m′} {k} {k′} {M = M} R (then s v r n l w C K) =
     let A = after (reached-after R C) K in
     record {
       reached = A .reached;
-      answers = (fol R C .answer, fol R C .used, A .answers);
+      answers = (fol R C .answer, fol R C .used, fol R C .preview, A .answers);
       sums = λ j. let x = A .sums j in let y = call-balance R C j in omega arith;
-      oneWay = (one-way R C (readCanonical s) refl (moved M (readCanonical s)), A .oneWay);
+      oneWay = (one-way R C (ℕ-discrete (length v) allMarks), A .oneWay);
     }
 
 -- no mark of either kind stands in a fresh book

@@ -2,7 +2,8 @@
 -- list of calls with these records answers and leaves.
 use Prim.Native.Nat.{ℕ}
 use mathlib.Core.Path.{_≡_, refl, ap, subst, _∙_}
-use mathlib.Core.List.{List, [], _∷_}
+use mathlib.Core.List.{List, [], _∷_, map}
+use Rattle.sorts.specs.Numbers.{allMarks}
 use Rattle.sorts.specs.declared.Status.the-variants.{Trusted}
 use Rattle.rows.specs.Written.{Grant, grant, none, property, perm, issue, written, sameBytes, sameWritten}
 use Rattle.rows.specs.Numbering.{place, has, add, number}
@@ -11,9 +12,9 @@ use Rattle.grants.specs.Grants.{readProperty, readPacked, readIssue, readConcl,
 use Rattle.canon.specs.Canon.{canon}
 use Rattle.reader.specs.Records.{readEntry, readLicence, readQuery, readContent, kindWith, readMark, readRecord, readCanonical}
 use Rattle.book.specs.declared.Book.{Book}
-use Rattle.machine.specs.Machine.{State, Verdict, changes, asks, refuses, Entry, start, member, insert, delete, act, step}
+use Rattle.machine.specs.Machine.{State, Verdict, changes, asks, refuses, Entry, start, member, insert, delete, act, step, feed}
 use Rattle.book.specs.Books.{Shows}
-use Rattle.book.specs.Chains.{freshBook, freshMarks, Call, Chain, records, runs}
+use Rattle.book.specs.Chains.{freshBook, freshMarks, Call, Chain, whole, records, runs}
 use Rattle.demands.proofs.Demand3.{demand-3}
 
 -- the seven records
@@ -30,10 +31,10 @@ journal =
 -- what the machine says of a list of records
 unfoldable pub verdicts : State → List (List ℕ) → List Verdict
 verdicts M [] = []
-verdicts M (s ∷ ss) = step M s .says ∷ verdicts (step M s .next) ss
+verdicts M (s ∷ ss) = feed M allMarks s .says ∷ verdicts (feed M allMarks s .next) ss
 
 opened : State → List (List ℕ) → List Verdict
-unfolding byteAt upto principal pack tag header readProperty readPacked readIssue readConcl readConds readWith readGrant readEntry readLicence readQuery readContent kindWith readMark readRecord canon readCanonical written sameBytes sameWritten place has add number member insert delete act step runs verdicts
+unfolding byteAt upto principal pack tag header readProperty readPacked readIssue readConcl readConds readWith readGrant readEntry readLicence readQuery readContent kindWith readMark readRecord canon readCanonical written sameBytes sameWritten place has add number member insert delete act step feed runs verdicts
 opened M ss = verdicts M ss
 
 pub journal-verdicts : verdicts start journal ≡ changes ∷ changes ∷ asks 290 ∷ changes ∷ asks 290 ∷ changes ∷ refuses 7 ∷ []
@@ -56,10 +57,10 @@ trusted g = record { by = Trusted; what = g }
 abbrev pub journal-end : State
 journal-end = record { entries = trusted smart ∷ trusted may ∷ []; N = smart ∷ good ∷ may ∷ [] }
 
-pub journal-runs : runs start journal ≡ journal-end
+pub journal-runs : runs start (map whole journal) ≡ journal-end
 unfolding opened
 journal-runs = refl
 
 -- every list of calls with these records leaves a book that shows that state
-pub journal-shows : (cs : List Call) (b : Book) (m k : List ℕ) → Chain freshBook freshMarks freshMarks cs b m k → records cs ≡ journal → Shows b journal-end
+pub journal-shows : (cs : List Call) (b : Book) (m k : List ℕ) → Chain freshBook freshMarks freshMarks cs b m k → records cs ≡ map whole journal → Shows b journal-end
 journal-shows cs b m k K e = subst (Shows b) (ap (runs start) e ∙ journal-runs) (demand-3 cs b m k K .shows)

@@ -3,7 +3,7 @@
 use Prim.Native.Nat.{ℕ, zero, suc, _+_, _≤_, _<_}
 use mathlib.Core.Path.{_≡_, refl, sym, ap, subst, _∙_}
 use mathlib.Core.Bool.{Bool, true, false, cond, _&&_}
-use mathlib.Core.List.{List, [], _∷_}
+use mathlib.Core.List.{List, [], _∷_, map}
 use mathlib.Core.Logic.{_⊎_, inl, inr, ⊎-elim}
 use native.Mathlib.Omega.{arith}
 use native.Mathlib.Decide.{ℕ-discrete}
@@ -25,14 +25,14 @@ use Rattle.rules.specs.Standing.{In, Bits}
 use Rattle.rules.proofs.Saturation.{same-marks, zeroes-none}
 use Rattle.book.specs.declared.Book.{Book}
 use Rattle.book.specs.declared.Answer.the-variants.{Permitted, NotPermitted}
-use Rattle.machine.specs.Machine.{State, Entry, Step, asks, start, member, insert, delete, act, step}
+use Rattle.machine.specs.Machine.{State, Entry, Step, asks, start, member, insert, delete, act, step, feed}
 use Rattle.machine.specs.Closed.{Choice, grantAt, rowAt, StandsAs, Licensed, ClosedSet, Stands}
 use Rattle.machine.specs.Closed as closed
 use Rattle.machine.specs.Choices.{AlwaysStands, NeverStands}
 use Rattle.machine.proofs.Apart.{kindOf, kinds-apart}
 use Rattle.marks.specs.Counts.{truths, sayings, ones, marksOf}
 use Rattle.machine.proofs.Sets.{member-cases, member-none}
-use Rattle.book.specs.Chains.{freshBook, freshMarks, Call, Chain, none, then, records, runs}
+use Rattle.book.specs.Chains.{freshBook, freshMarks, Call, Chain, none, then, Fed, whole, records, runs}
 use Rattle.demands.specs.Worth.{allGains, allLosses}
 use Rattle.demands.specs.Demands.{NoLoss, NoGain, OneWay, AllOneWay}
 use Rattle.demands.proofs.Balance.{ones-none, ones-zero, ones-kinds, kind-bits}
@@ -256,7 +256,7 @@ module _ (m : List ℕ) (bits : Bits m) (all : ones m ≡ 2) (is : (n : ℕ) →
   two-truths = let e = ones-kinds m in let z = no-sayings in omega arith
 
 -- THE SUMS: gains less losses of truths are the two marks that stand at the end; those of sayings are none.
-pub journal-sums : (cs : List Call) (b : Book) (m k : List ℕ) → Chain freshBook freshMarks freshMarks cs b m k → records cs ≡ journal →
+pub journal-sums : (cs : List Call) (b : Book) (m k : List ℕ) → Chain freshBook freshMarks freshMarks cs b m k → records cs ≡ map whole journal →
     (allGains truths cs ≡ allLosses truths cs + 2) × (allGains sayings cs ≡ allLosses sayings cs)
 journal-sums cs b m k K e =
     let D = demand-3 cs b m k K in
@@ -283,32 +283,36 @@ unfolding byteAt upto principal header readProperty readConcl readConds readWith
 sixth-is = refl
 
 pub journal-one-way : (a b c d e f g : Call) (t : Book) (m k : List ℕ) → Chain freshBook freshMarks freshMarks (a ∷ b ∷ c ∷ d ∷ e ∷ f ∷ g ∷ []) t m k →
-    records (a ∷ b ∷ c ∷ d ∷ e ∷ f ∷ g ∷ []) ≡ journal → NoLoss b × NoGain f
+    records (a ∷ b ∷ c ∷ d ∷ e ∷ f ∷ g ∷ []) ≡ map whole journal → NoLoss b × NoGain f
 unfolding records AllOneWay
 journal-one-way a b c d e f g t m k K h =
     let W = demand-3 (a ∷ b ∷ c ∷ d ∷ e ∷ f ∷ g ∷ []) t m k K .oneWay in
-    let li : readCanonical (b .record′) ≡ got (enter (Issued (record { 0 = 0 })) good) 9 = ap (λ (l : List (List ℕ)). readCanonical (getD l 1 [])) h ∙ second-is in
-    let wd : readCanonical (f .record′) ≡ got (remove (Issued (record { 0 = 0 })) good) 9 = ap (λ (l : List (List ℕ)). readCanonical (getD l 5 [])) h ∙ sixth-is in
+    let li : readCanonical (b .record′) ≡ got (enter (Issued (record { 0 = 0 })) good) 9 = ap (λ (l : List Fed). readCanonical (getD l 1 (whole []) .bytes)) h ∙ second-is in
+    let wd : readCanonical (f .record′) ≡ got (remove (Issued (record { 0 = 0 })) good) 9 = ap (λ (l : List Fed). readCanonical (getD l 5 (whole []) .bytes)) h ∙ sixth-is in
     (subst (λ (o : Outcome Record). OneWay o b) li (W .1 .0), subst (λ (o : Outcome Record). OneWay o f) wd (W .1 .1 .1 .1 .1 .0))
 
 -- THE ANSWERS: Good(2) is not permitted at the third record, and permitted at the fifth.
 
-third-asks : step (runs start (take 2 journal)) (getD journal 2 []) ≡ record { next = first; says = asks 290; used = 5 }
-unfolding byteAt upto principal pack tag header readProperty readPacked readIssue readConcl readConds readWith readGrant readEntry readLicence readQuery readContent kindWith readMark readRecord canon readCanonical written sameBytes sameWritten place has add number member insert delete act step runs
+third-asks : feed (runs start (take 2 (map whole journal))) allMarks (getD journal 2 []) ≡ record { next = first; says = asks 290; used = 5 }
+unfolding byteAt upto principal pack tag header readProperty readPacked readIssue readConcl readConds readWith readGrant readEntry readLicence readQuery readContent kindWith readMark readRecord canon readCanonical written sameBytes sameWritten place has add number member insert delete act step feed runs
 third-asks = refl
 
-fifth-asks : step (runs start (take 4 journal)) (getD journal 4 []) ≡ record { next = second; says = asks 290; used = 5 }
-unfolding byteAt upto principal pack tag header readProperty readPacked readIssue readConcl readConds readWith readGrant readEntry readLicence readQuery readContent kindWith readMark readRecord canon readCanonical written sameBytes sameWritten place has add number member insert delete act step runs
+fifth-asks : feed (runs start (take 4 (map whole journal))) allMarks (getD journal 4 []) ≡ record { next = second; says = asks 290; used = 5 }
+unfolding byteAt upto principal pack tag header readProperty readPacked readIssue readConcl readConds readWith readGrant readEntry readLicence readQuery readContent kindWith readMark readRecord canon readCanonical written sameBytes sameWritten place has add number member insert delete act step feed runs
 fifth-asks = refl
 
+-- what is fed at a call
+abbrev fedWith : List ℕ → List ℕ → Fed
+fedWith s v = record { bytes = s; room = length v }
+
 pub journal-answers : {a b c d e f g : Call} {t : Book} {m k : List ℕ} → Chain freshBook freshMarks freshMarks (a ∷ b ∷ c ∷ d ∷ e ∷ f ∷ g ∷ []) t m k →
-    records (a ∷ b ∷ c ∷ d ∷ e ∷ f ∷ g ∷ []) ≡ journal → (c .gave .answer ≡ NotPermitted) × (e .gave .answer ≡ Permitted)
+    records (a ∷ b ∷ c ∷ d ∷ e ∷ f ∷ g ∷ []) ≡ map whole journal → (c .gave .answer ≡ NotPermitted) × (e .gave .answer ≡ Permitted)
 unfolding records
-journal-answers (then s1 r1 n1 l1 c1 (then s2 r2 n2 l2 c2 (then s3 r3 n3 l3 c3 (then s4 r4 n4 l4 c4 (then s5 r5 n5 l5 c5 K))))) h =
-    let third : step (runs start (s1 ∷ s2 ∷ [])) s3 ≡ record { next = first; says = asks 290; used = 5 } = ap (λ (l : List (List ℕ)). step (runs start (take 2 l)) (getD l 2 [])) h ∙ third-asks in
-    let fifth : step (runs start (s1 ∷ s2 ∷ s3 ∷ s4 ∷ [])) s5 ≡ record { next = second; says = asks 290; used = 5 } = ap (λ (l : List (List ℕ)). step (runs start (take 4 l)) (getD l 4 [])) h ∙ fifth-asks in (
-      demand-2 _ _ _ _ (then s1 r1 n1 l1 c1 (then s2 r2 n2 l2 c2 none)) s3 r3 n3 l3 c3 290 (ap (λ (x : Step). x .says) third) .notPermitted .1 (subst (λ (x : Step). NeverStands (x .next) 290) (sym third) first-lacks),
-      demand-2 _ _ _ _ (then s1 r1 n1 l1 c1 (then s2 r2 n2 l2 c2 (then s3 r3 n3 l3 c3 (then s4 r4 n4 l4 c4 none)))) s5 r5 n5 l5 c5 290 (ap (λ (x : Step). x .says) fifth) .permitted .1 (subst (λ (x : Step). AlwaysStands (x .next) 290) (sym fifth) second-stands),
+journal-answers (then s1 v1 r1 n1 l1 w1 c1 (then s2 v2 r2 n2 l2 w2 c2 (then s3 v3 r3 n3 l3 w3 c3 (then s4 v4 r4 n4 l4 w4 c4 (then s5 v5 r5 n5 l5 w5 c5 K))))) h =
+    let third : feed (runs start (fedWith s1 v1 ∷ fedWith s2 v2 ∷ [])) (length v3) s3 ≡ record { next = first; says = asks 290; used = 5 } = ap (λ (l : List Fed). feed (runs start (take 2 l)) (getD l 2 (whole []) .room) (getD l 2 (whole []) .bytes)) h ∙ third-asks in
+    let fifth : feed (runs start (fedWith s1 v1 ∷ fedWith s2 v2 ∷ fedWith s3 v3 ∷ fedWith s4 v4 ∷ [])) (length v5) s5 ≡ record { next = second; says = asks 290; used = 5 } = ap (λ (l : List Fed). feed (runs start (take 4 l)) (getD l 4 (whole []) .room) (getD l 4 (whole []) .bytes)) h ∙ fifth-asks in (
+      demand-2 _ _ _ _ (then s1 v1 r1 n1 l1 w1 c1 (then s2 v2 r2 n2 l2 w2 c2 none)) s3 v3 r3 n3 l3 w3 c3 290 (ap (λ (x : Step). x .says) third) .notPermitted .1 (subst (λ (x : Step). NeverStands (x .next) 290) (sym third) first-lacks),
+      demand-2 _ _ _ _ (then s1 v1 r1 n1 l1 w1 c1 (then s2 v2 r2 n2 l2 w2 c2 (then s3 v3 r3 n3 l3 w3 c3 (then s4 v4 r4 n4 l4 w4 c4 none)))) s5 v5 r5 n5 l5 w5 c5 290 (ap (λ (x : Step). x .says) fifth) .permitted .1 (subst (λ (x : Step). AlwaysStands (x .next) 290) (sym fifth) second-stands),
     )
 
 -- There are such calls: chain-some has them, and calls with these records are seven.
@@ -324,9 +328,9 @@ pub record Seven : Type 0 where
   pub marks : List ℕ
   pub second : List ℕ
   pub chain : Chain freshBook freshMarks freshMarks (a ∷ b ∷ c ∷ d ∷ e ∷ f ∷ g ∷ []) book marks second
-  pub same : records (a ∷ b ∷ c ∷ d ∷ e ∷ f ∷ g ∷ []) ≡ journal
+  pub same : records (a ∷ b ∷ c ∷ d ∷ e ∷ f ∷ g ∷ []) ≡ map whole journal
 
-seven : (cs : List Call) (t : Book) (m k : List ℕ) → Chain freshBook freshMarks freshMarks cs t m k → records cs ≡ journal → Seven
+seven : (cs : List Call) (t : Book) (m k : List ℕ) → Chain freshBook freshMarks freshMarks cs t m k → records cs ≡ map whole journal → Seven
 unfolding records
 seven [] t m k K h = absurd (omega (arith, ap length h))
 seven (a ∷ []) t m k K h = absurd (omega (arith, ap length h))

@@ -5,16 +5,18 @@ use mathlib.Core.Bool.{Bool, true, false, cond}
 use mathlib.Core.List.{List, [], _∷_, _++_}
 use native.Mathlib.Omega.{arith}
 use lib.ListN.{length}
+use lib.Dec.{eqb}
+use Rattle.sorts.specs.Numbers.{allMarks}
 use Rattle.rows.specs.Written.{Grant, sameWritten}
 use Rattle.rows.specs.Numbering.{place, has}
 use Rattle.rows.specs.Form.{rowsOut}
 use Rattle.rows.proofs.Place.{has-lt}
 use Rattle.ranges.specs.Bytes.{Outcome, got, refused}
-use Rattle.reader.specs.Records.{Record, enter, remove, confirm, query, readCanonical}
+use Rattle.reader.specs.Records.{Record, enter, remove, confirm, preview, query, readCanonical}
 use Rattle.rows.proofs.Appended.{Ext, ext-refl, ext-trans}
 use Rattle.book.specs.declared.Book.{Book}
-use Rattle.machine.specs.Machine.{State, start, acted, step}
-use Rattle.book.specs.Chains.{Call, Chain, freshBook, freshMarks, records, runs}
+use Rattle.machine.specs.Machine.{State, start, refuse, acted, step, feed}
+use Rattle.book.specs.Chains.{Call, Chain, freshBook, freshMarks, Fed, records, runs}
 use Rattle.demands.proofs.Moving.{Moved, moved}
 use Rattle.demands.proofs.Reached.{fresh-reached}
 use Rattle.demands.proofs.Demand3.{after}
@@ -27,14 +29,23 @@ step-grows M s = go (readCanonical s) (moved M (readCanonical s))
     go (got (enter by g) n) u = u .ext
     go (got (remove by g) n) u = u .ext
     go (got (confirm p g) n) u = u .ext
+    go (got (preview p g) n) u = u .ext
     go (got (query c) n) u = u .ext
     go (refused k) u = u .ext
 
+feed-grows : (M : State) (u : ℕ) (s : List ℕ) → Ext (M .N) (feed M u s .next .N)
+unfolding feed
+feed-grows M u s = go (eqb u allMarks)
+  where
+    go : (t : Bool) → Ext (M .N) (cond t (step M s) (refuse M 9 0) .next .N)
+    go true = step-grows M s
+    go false = ext-refl (M .N)
+
 -- Over every list of records N only grows at its end,
-pub grows : (ss : List (List ℕ)) (M : State) → Ext (M .N) (runs M ss .N)
+pub grows : (ss : List Fed) (M : State) → Ext (M .N) (runs M ss .N)
 unfolding runs
 grows [] M = ext-refl (M .N)
-grows (s ∷ ss) M = ext-trans (step-grows M s) (grows ss (step M s .next))
+grows (s ∷ ss) M = ext-trans (feed-grows M (s .room) (s .bytes)) (grows ss (feed M (s .room) (s .bytes) .next))
 
 place-grows : (g : Grant) (N more : List Grant) → place g N < length N → place g (N ++ more) ≡ place g N
 unfolding place
@@ -47,7 +58,7 @@ place-grows g (h ∷ N) more l = go (sameWritten g h) (place-grows g N more) l
     go false f k = ap suc (f (omega arith))
 
 -- so a grant that has a number keeps it,
-pub number-kept : (ss : List (List ℕ)) (M : State) (g : Grant) → has g (M .N) ≡ true → place g (runs M ss .N) ≡ place g (M .N)
+pub number-kept : (ss : List Fed) (M : State) (g : Grant) → has g (M .N) ≡ true → place g (runs M ss .N) ≡ place g (M .N)
 number-kept ss M g e =
     let x = grows ss M in
     ap (place g) (x .is) ∙ place-grows g (M .N) (x .more) (has-lt g (M .N) e)

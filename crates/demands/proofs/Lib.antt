@@ -10,6 +10,7 @@ pub mod Journal
 pub mod JournalDemands
 pub mod Kept
 pub mod Moving
+pub mod Previewing
 pub mod Reached
 pub mod RowBack
 pub mod Shown

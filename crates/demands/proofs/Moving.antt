@@ -5,16 +5,18 @@ use mathlib.Core.Bool.{Bool, true, false, cond}
 use mathlib.Core.List.{List}
 use mathlib.Core.Logic.{_⊎_, inl, inr, ⊎-elim}
 use native.Mathlib.Omega.{arith}
+use lib.Dec.{eqb}
 use Rattle.sorts.specs.declared.Prin.{Prin}
+use Rattle.sorts.specs.Numbers.{allMarks}
 use Rattle.sorts.specs.declared.Status.{Status}
 use Rattle.sorts.specs.declared.Status.the-variants.{Trusted, Issued, Provisional}
 use Rattle.rows.specs.Written.{Grant}
 use Rattle.rows.specs.Numbering.{number, numberConcl}
 use Rattle.rows.proofs.Appended.{Ext, ext-refl, number-ext, concl-more}
 use Rattle.ranges.specs.Bytes.{Outcome, got, refused}
-use Rattle.reader.specs.Records.{Record, enter, remove, confirm, query}
+use Rattle.reader.specs.Records.{Record, enter, remove, confirm, preview, query, readCanonical}
 use Rattle.reader.specs.Requests.{fits}
-use Rattle.machine.specs.Machine.{State, Entry, Verdict, Step, changes, asks, refuses, refuse, act, acted, member, insert, delete, entry, entered, there, removed, stands}
+use Rattle.machine.specs.Machine.{State, Entry, Verdict, Step, changes, previews, asks, refuses, refuse, act, acted, step, feed, member, insert, delete, entry, entered, there, removed, stands}
 use Rattle.machine.proofs.Apart.{kinds-apart, provisional-issued, delete-member}
 use Rattle.machine.proofs.Sets.{insert-same, insert-other, delete-other, entry-dec}
 use Rattle.demands.proofs.Views.{View, firm, both, Has}
@@ -40,7 +42,7 @@ pub record Still (M M′ : State) : Type 0 where
   pub shrinks : Grows M′ M
   pub ext : Ext (M .N) (M′ .N)
 
-same-state : (M : State) → Still M M
+pub same-state : (M : State) → Still M M
 same-state M = record { grows = λ v by g e. e; shrinks = λ v by g e. e; ext = ext-refl (M .N) }
 
 -- where every entry is kept, every view has more
@@ -126,6 +128,7 @@ module _ (M : State) where
   Moved (got (enter by g) n) = Up M (act M (enter by g) n .next)
   Moved (got (remove by g) n) = Down M (act M (remove by g) n .next)
   Moved (got (confirm p g) n) = Up M (act M (confirm p g) n .next)
+  Moved (got (preview p g) n) = Still M (act M (preview p g) n .next)
   Moved (got (query c) n) = Still M (act M (query c) n .next)
   Moved (refused k) = Still M M
 
@@ -140,6 +143,7 @@ module _ (M : State) where
   moved (got (confirm p g) n) =
       up-or (record { entries = entered (Issued p) g (M .entries); N = M .N }) 7 n n changes
       (record { grows = entered-more (Issued p) g (M .entries); ext = ext-refl (M .N) }) (stands M (Provisional p) g)
+  moved (got (preview p g) n) = still-or M 7 n n (previews p g) (same-state M) (there (Issued p) g (M .entries))
   moved (got (query c) n) =
       still-or (record { entries = M .entries; N = numberConcl c (M .N) }) 6 n n _
       (record { grows = λ v by g e. e; shrinks = λ v by g e. e; ext = concl-more c (M .N) }) (fits (numberConcl c (M .N)))
@@ -155,5 +159,15 @@ module _ (M : State) where
   asks-still (got (enter by g) n) c e = not-asking _ (refuse M 6 n) c refl refl (fits (number g (M .N))) e
   asks-still (got (remove by g) n) c e = not-asking _ (refuse M 7 n) c refl refl (there by g (M .entries)) e
   asks-still (got (confirm p g) n) c e = not-asking _ (refuse M 7 n) c refl refl (stands M (Provisional p) g) e
+  asks-still (got (preview p g) n) c e = moved (got (preview p g) n)
   asks-still (got (query q) n) c e = moved (got (query q) n)
   asks-still (refused k) c e = same-state M
+
+  -- whichever preview buffer is lent, a record that asks changes nothing that stands
+  pub feed-asks : (u : ℕ) (s : List ℕ) (c : ℕ) → feed M u s .says ≡ asks c → Still M (feed M u s .next)
+  unfolding feed step
+  feed-asks u s c = go (eqb u allMarks)
+    where
+      go : (t : Bool) → cond t (acted M (readCanonical s)) (refuse M 9 0) .says ≡ asks c → Still M (cond t (acted M (readCanonical s)) (refuse M 9 0) .next)
+      go true e = asks-still (readCanonical s) c e
+      go false e = same-state M

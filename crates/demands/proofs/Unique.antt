@@ -1,6 +1,6 @@
 -- At a call no choice is left: book, marks and bytes decide the answer, the book and the marks that it leaves.
 use Prim.Native.Nat.{ℕ, _+_, _*_, _/_, _%_, _<_}
-use mathlib.Core.Path.{_≡_, sym, ap, _∙_}
+use mathlib.Core.Path.{_≡_, sym, ap, ap₂, _∙_}
 use mathlib.Core.List.{List}
 use mathlib.Core.Logic.{_⊎_, inl, inr}
 use native.Mathlib.Omega.{arith}
@@ -15,7 +15,7 @@ use Rattle.rows.proofs.Appended.{ext-refl}
 use Rattle.book.specs.declared.Book.{Book}
 use Rattle.book.specs.declared.Answered.{Answered}
 use Rattle.machine.specs.Machine.{State, step}
-use Rattle.book.specs.Books.{BookForm, Shows}
+use Rattle.book.specs.Books.{BookForm, Lent, Shows}
 use Rattle.book.specs.Calls.{answerOf, marksAfter, secondAfter, Called}
 use Rattle.demands.proofs.ClosedBook.{shown}
 use Rattle.demands.proofs.RowBack.{shown-more}
@@ -62,23 +62,25 @@ module _ {b b′ : Book} {m m′ k k′ : List ℕ} {M : State} (f : BookForm b 
   pub same-book : b ≡ b′
   same-book = λ i. record { table = record { rows = same-rows i; count = same-count i }; flags = same-flags i }
 
--- Two calls with the same book in form, marks and bytes have the same answer, bytes used, book and marks.
-no-choice-formed : (b : Book) (m k s : List ℕ) (M : State) → BookForm b m k → Shows b M → (r r′ : Answered) (n n′ l l′ : List ℕ) →
-    Called b m k s r n l → Called b m k s r′ n′ l′ → (r ≡ r′) × (n ≡ n′) × (l ≡ l′)
-no-choice-formed b m k s M f sh r r′ n n′ l l′ C C′ =
+-- Two calls with the same book in form, buffers and bytes have the same answer, bytes used, book and buffers.
+no-choice-formed : (b : Book) (m k v s : List ℕ) (M : State) → Lent b m k v → Shows b M → (r r′ : Answered) (n n′ l l′ w w′ : List ℕ) →
+    Called b m k v s r n l w → Called b m k v s r′ n′ l′ w′ → (r ≡ r′) × (n ≡ n′) × (l ≡ l′) × (w ≡ w′)
+no-choice-formed b m k v s M f sh r r′ n n′ l l′ w w′ C C′ =
     let F = C .formed f M sh in
     let F′ = C′ .formed f M sh in
     let book : r .book ≡ r′ .book = same-book (F .form) (F′ .form) (F .shows) (F′ .shows) in
     let marks : n ≡ n′ = F .marks ∙ ap (λ (x : Book). marksAfter (step M s .says) x m) book ∙ sym (F′ .marks) in
     let second : l ≡ l′ = F .second ∙ ap (λ (x : Book). secondAfter (step M s .says) x k) book ∙ sym (F′ .second) in
-    let answer : r .answer ≡ r′ .answer = F .answer ∙ ap (answerOf (step M s .says) m k) marks ∙ sym (F′ .answer) in
+    let preview : w ≡ w′ = F .preview ∙ sym (F′ .preview) in
+    let answer : r .answer ≡ r′ .answer = F .answer ∙ ap₂ (λ (x y : List ℕ). answerOf (step M s .says) m k x y) marks preview ∙ sym (F′ .answer) in
     let used : r .used ≡ r′ .used = F .used ∙ sym (F′ .used) in
-    (λ i. record { book = book i; answer = answer i; used = used i }, marks, second)
+    (λ i. record { book = book i; answer = answer i; used = used i }, marks, second, preview)
 
--- whatever book, marks and bytes
-pub no-choice : (b : Book) (m k s : List ℕ) (r r′ : Answered) (n n′ l l′ : List ℕ) → Called b m k s r n l → Called b m k s r′ n′ l′ → (r ≡ r′) × (n ≡ n′) × (l ≡ l′)
-no-choice b m k s r r′ n n′ l l′ C C′ = by (C .decided)
+-- whatever book, buffers and bytes
+pub no-choice : (b : Book) (m k v s : List ℕ) (r r′ : Answered) (n n′ l l′ w w′ : List ℕ) → Called b m k v s r n l w → Called b m k v s r′ n′ l′ w′ →
+    (r ≡ r′) × (n ≡ n′) × (l ≡ l′) × (w ≡ w′)
+no-choice b m k v s r r′ n n′ l l′ w w′ C C′ = by (C .decided)
   where
-    by : BookForm b m k ⊎ (BookForm b m k → ⊥) → (r ≡ r′) × (n ≡ n′) × (l ≡ l′)
-    by (inl f) = let w = shows-some b m k f in no-choice-formed b m k s (w .0) f (w .1) r r′ n n′ l l′ C C′
-    by (inr d) = let x = C .unformed d in let y = C′ .unformed d in (x .0 ∙ sym (y .0), x .1 ∙ sym (y .1), x .2 ∙ sym (y .2))
+    by : Lent b m k v ⊎ (Lent b m k v → ⊥) → (r ≡ r′) × (n ≡ n′) × (l ≡ l′) × (w ≡ w′)
+    by (inl f) = let x = shows-some b m k (f .book) in no-choice-formed b m k v s (x .0) f (x .1) r r′ n n′ l l′ w w′ C C′
+    by (inr d) = let x = C .unformed d in let y = C′ .unformed d in (x .0 ∙ sym (y .0), x .1 ∙ sym (y .1), x .2 ∙ sym (y .2), x .3 ∙ sym (y .3))

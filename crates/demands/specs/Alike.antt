@@ -5,7 +5,7 @@ use mathlib.Core.List.{List, [], _∷_}
 use Rattle.ranges.specs.Bytes.{Outcome, got, refused}
 use Rattle.reader.specs.Records.{Record, readCanonical}
 use Rattle.book.specs.declared.Answer.{Answer}
-use Rattle.book.specs.Chains.{Call}
+use Rattle.book.specs.Chains.{Call, Fed}
 
 -- What was read but for its length, which is as it was written.
 abbrev pub asked : Outcome Record → Outcome Record
@@ -16,12 +16,12 @@ asked (refused k) = refused k
 abbrev pub Alike : List ℕ → List ℕ → Type 0
 Alike s t = asked (readCanonical s) ≡ asked (readCanonical t)
 
--- Two lists of records, one by one.
-abbrev pub AllAlike : List (List ℕ) → List (List ℕ) → Type 0
+-- Two lists of what was fed, one by one: preview buffers of one length, and records that ask the same.
+abbrev pub AllAlike : List Fed → List Fed → Type 0
 AllAlike [] [] = Unit {0}
 AllAlike [] (t ∷ ts) = ⊥
 AllAlike (s ∷ ss) [] = ⊥
-AllAlike (s ∷ ss) (t ∷ ts) = Alike s t × AllAlike ss ts
+AllAlike (s ∷ ss) (t ∷ ts) = (s .room ≡ t .room) × Alike (s .bytes) (t .bytes) × AllAlike ss ts
 
 -- The answers of a list of calls, in order.
 unfoldable pub answered : List Call → List Answer

@@ -6,24 +6,26 @@ use mathlib.Core.List.{List, [], _∷_}
 use mathlib.Core.Option.{some}
 use mathlib.Core.Logic.{_↔_}
 use lib.IntN.{pos, _-ℤ_}
-use lib.ListN.{getD}
+use lib.ListN.{length, getD}
+use Rattle.rows.specs.Written.{Grant}
 use Rattle.rows.specs.Numbering.{number, numberConcl}
 use Rattle.ranges.specs.Bytes.{Outcome, got, refused}
-use Rattle.reader.specs.Records.{Record, enter, remove, confirm, query, readCanonical}
+use Rattle.reader.specs.Records.{Record, enter, remove, confirm, preview, query, readCanonical}
 use Rattle.reader.specs.Requests.{fits}
-use Rattle.sorts.specs.declared.Status.the-variants.{Provisional}
+use Rattle.sorts.specs.declared.Prin.{Prin}
+use Rattle.sorts.specs.declared.Status.the-variants.{Issued, Provisional}
 use Rattle.book.specs.declared.Book.{Book}
 use Rattle.book.specs.declared.Answer.{Answer}
-use Rattle.book.specs.declared.Answer.the-variants.{Permitted, Open, NotPermitted, Changed, Refused}
+use Rattle.book.specs.declared.Answer.the-variants.{Permitted, Open, NotPermitted, Changed, Previewed, Refused}
 use Rattle.marks.specs.declared.Counts.{Counts}
 use Rattle.book.specs.declared.Answered.{Answered}
-use Rattle.machine.specs.Machine.{State, changes, asks, stands, there, start, step}
+use Rattle.machine.specs.Machine.{State, changes, previews, asks, stands, there, start, step, feed}
 use Rattle.machine.specs.Closed.{none, all, Stands}
 use Rattle.machine.specs.Choices.{AlwaysStands, NeverStands, Undecided}
 use Rattle.blocks.specs.Gains.{gains}
-use Rattle.marks.specs.Counts.{Statements, ones, marksOf, countsOf}
-use Rattle.book.specs.Books.{BookForm, Shows}
-use Rattle.book.specs.Calls.{answerOf}
+use Rattle.marks.specs.Counts.{Statements, ones, marksOf, countsOf, changeIn}
+use Rattle.book.specs.Books.{BookForm, Lent, Shows}
+use Rattle.book.specs.Calls.{answerOf, previewAfter}
 use Rattle.book.specs.Chains.{Call, records, runs}
 use Rattle.demands.specs.Worth.{worth, reported, allGains, allLosses}
 
@@ -36,12 +38,13 @@ pub record Demand2 (M : State) (c : ℕ) (a : Answer) : Type 1 where
   pub notPermitted : (a ≡ NotPermitted) ↔ NeverStands M c
 
 -- "Each call was accepted where the machine accepted its record, and refused with the machine's number where it refused", with
--- the bytes used.
+-- the bytes used. Document 02, 6: the preview buffer has what "WD would produce", and is unchanged by "other records and every refusal".
 unfoldable pub Agrees : State → List Call → Type 0
 Agrees M [] = Unit {0}
 Agrees M (c ∷ cs) =
-    (c .gave .answer ≡ answerOf (step M (c .record′) .says) (c .marks) (c .second) (c .left)) × (c .gave .used ≡ step M (c .record′) .used) ×
-    Agrees (step M (c .record′) .next) cs
+    let st = feed M (length (c .preview)) (c .record′) in
+    (c .gave .answer ≡ answerOf (st .says) (c .marks) (c .second) (c .left) (c .leftPreview)) × (c .gave .used ≡ st .used) ×
+    (c .leftPreview ≡ previewAfter (st .says) M (c .before) (c .preview)) × Agrees (st .next) cs
 
 -- A call that lost no mark of either kind, in neither buffer, and reports no loss; one that gained none and reports no gain.
 abbrev pub NoLoss : Call → Type 0
@@ -55,11 +58,12 @@ NoGain c =
     (gains (marksOf k (c .second)) (marksOf k (c .leftSecond)) ≡ 0)
 
 -- "no enter or issue loses, no strike or withdrawal gains", whether accepted or refused, "PL and CF included as issues"; a query and
--- a record with a fault do neither.
+-- a preview do neither, nor does a record with a fault.
 abbrev pub OneWay : Outcome Record → Call → Type 0
 OneWay (got (enter by g) n) c = NoLoss c
 OneWay (got (remove by g) n) c = NoGain c
 OneWay (got (confirm p g) n) c = NoLoss c
+OneWay (got (preview p g) n) c = NoLoss c × NoGain c
 OneWay (got (query e) n) c = NoLoss c × NoGain c
 OneWay (refused k) c = NoLoss c × NoGain c
 
@@ -92,27 +96,32 @@ Turned M (refused j) k = j ≡ k
 Turned M (got (enter by g) n) k = (fits (number g (M .N)) ≡ false) × (k ≡ 6)
 Turned M (got (remove by g) n) k = (there by g (M .entries) ≡ false) × (k ≡ 7)
 Turned M (got (confirm p g) n) k = (stands M (Provisional p) g ≡ false) × (k ≡ 7)
+Turned M (got (preview p g) n) k = (there (Issued p) g (M .entries) ≡ false) × (k ≡ 7)
 Turned M (got (query c) n) k = (fits (numberConcl c (M .N)) ≡ false) × (k ≡ 6)
 
 -- A call on a book in form that shows M: each answer under its condition and no other.
-pub record Answers (M : State) (b : Book) (m k s : List ℕ) (r : Answered) (n l : List ℕ) : Type 0 where
+pub record Answers (M : State) (b : Book) (m k v s : List ℕ) (r : Answered) (n l w : List ℕ) : Type 0 where
   pub refusals : (j : ℕ) → (worth (r .answer) .number ≡ some j) ↔ Turned M (readCanonical s) j
   pub permitted : (r .answer ≡ Permitted) ↔ ((c : ℕ) × (step M s .says ≡ asks c) × (getD m c 0 ≡ 1))
   pub undecided : (r .answer ≡ Open) ↔ ((c : ℕ) × (step M s .says ≡ asks c) × (getD m c 0 ≡ 1 → ⊥) × (getD k c 0 ≡ 1))
   pub notPermitted : (r .answer ≡ NotPermitted) ↔ ((c : ℕ) × (step M s .says ≡ asks c) × (getD m c 0 ≡ 1 → ⊥) × (getD k c 0 ≡ 1 → ⊥))
   pub changed : (x : Counts) → (r .answer ≡ Changed x) ↔ ((step M s .says ≡ changes) × (x ≡ countsOf m n))
+  pub previewed : (x : Counts) → (r .answer ≡ Previewed x) ↔ ((p : Prin) × (g : Grant) × (step M s .says ≡ previews p g) × (x ≡ countsOf m w))
   pub used : r .used ≡ step M s .used
-  pub kept : (j : ℕ) → worth (r .answer) .number ≡ some j → (r .book ≡ b) × (n ≡ m) × (l ≡ k)
+  pub preview : w ≡ previewAfter (step M s .says) M b v
+  pub kept : (j : ℕ) → worth (r .answer) .number ≡ some j → (r .book ≡ b) × (n ≡ m) × (l ≡ k) × (w ≡ v)
+  pub untouched : (x : Counts) → r .answer ≡ Previewed x → (r .book ≡ b) × (n ≡ m) × (l ≡ k)
   pub numbered : (j : ℕ) → worth (r .answer) .number ≡ some j → (1 ≤ j) × (j ≤ 7)
 
--- DEMAND 1, of every lent book, marks and bytes: "Every record of bytes and every lent book gets an answer: permitted, not
+-- DEMAND 1, of every lent book, buffers and bytes: "Every record of bytes and every lent book gets an answer: permitted, not
 -- permitted, a change with its counts, or one of the numbered refusals, each under its condition and no other. A refused record
--- leaves every part of the book unchanged." Document 02, 5: "Demand 1 gains open". 9: "the lent book is out of form", exactly then; 8
--- is never said. Every book in form shows some state. Each net "is gained less lost".
-pub record Demand1 (b : Book) (m k s : List ℕ) (r : Answered) (n l : List ℕ) : Type 0 where
-  pub unformed : (BookForm b m k → ⊥) → (r ≡ record { book = b; answer = Refused 9; used = 0 }) × (n ≡ m) × (l ≡ k)
-  pub formed : BookForm b m k → (M : State) → Shows b M → Answers M b m k s r n l
+-- leaves every part of the book unchanged." Document 02, 5: "Demand 1 gains open"; 6: a preview, with its counts. 9: "the lent book is out
+-- of form", or the preview buffer is, exactly then; 8 is never said. Every book in form shows some state. Each net "is gained less
+-- lost".
+pub record Demand1 (b : Book) (m k v s : List ℕ) (r : Answered) (n l w : List ℕ) : Type 0 where
+  pub unformed : (Lent b m k v → ⊥) → (r ≡ record { book = b; answer = Refused 9; used = 0 }) × (n ≡ m) × (l ≡ k) × (w ≡ v)
+  pub formed : Lent b m k v → (M : State) → Shows b M → Answers M b m k v s r n l w
   pub shown : BookForm b m k → (M : State) × Shows b M
-  pub nine : (worth (r .answer) .number ≡ some 9) ↔ (BookForm b m k → ⊥)
+  pub nine : (worth (r .answer) .number ≡ some 9) ↔ (Lent b m k v → ⊥)
   pub numbered : (j : ℕ) → worth (r .answer) .number ≡ some j → (1 ≤ j) × (j ≤ 9) × (j ≡ 8 → ⊥)
-  pub net : (j : Statements) → reported j (r .answer) .net ≡ pos (reported j (r .answer) .gained) -ℤ pos (reported j (r .answer) .lost)
+  pub net : (j : Statements) → changeIn j (worth (r .answer) .counts) .net ≡ pos (changeIn j (worth (r .answer) .counts) .gained) -ℤ pos (changeIn j (worth (r .answer) .counts) .lost)

@@ -1,3 +1,4 @@
 pub mod Alike
 pub mod Worth
 pub mod Demands
+pub mod Previews

@@ -6,7 +6,7 @@ use lib.IntN.{pos}
 use Rattle.marks.specs.declared.Change.{Change}
 use Rattle.marks.specs.declared.Counts.{Counts}
 use Rattle.book.specs.declared.Answer.{Answer}
-use Rattle.book.specs.declared.Answer.the-variants.{Permitted, Open, NotPermitted, Changed, Refused}
+use Rattle.book.specs.declared.Answer.the-variants.{Permitted, Open, NotPermitted, Changed, Previewed, Refused}
 use Rattle.marks.specs.Counts.{Statements, changeIn}
 use Rattle.book.specs.Chains.{Call}
 
@@ -30,11 +30,21 @@ worth Permitted = uncounted none
 worth Open = uncounted none
 worth NotPermitted = uncounted none
 worth (Changed c) = record { number = none; counts = c }
+worth (Previewed c) = record { number = none; counts = c }
 worth (Refused k) = uncounted (some k)
+
+-- Document 02, 6: of a preview "these counts enter no sum over a list". The counts of what changed.
+abbrev pub counted : Answer → Counts
+counted Permitted = noCounts
+counted Open = noCounts
+counted NotPermitted = noCounts
+counted (Changed c) = c
+counted (Previewed c) = noCounts
+counted (Refused k) = noCounts
 
 -- What an answer reports of one kind of statement.
 abbrev pub reported : Statements → Answer → Change
-reported k a = changeIn k (worth a .counts)
+reported k a = changeIn k (counted a)
 
 -- All gains, and all losses, that a list of calls reports of one kind.
 unfoldable pub allGains : Statements → List Call → ℕ
