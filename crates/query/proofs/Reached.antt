@@ -1,19 +1,20 @@
 -- The states of the plain machine are as the theorems ask.
-use mathlib.Core.Path.{subst}
-use mathlib.Core.List.{List}
+use mathlib.Core.Path.{_≡_, sym, ap, subst, _∙_}
+use mathlib.Core.List.{List, [], _∷_}
 use Prim.Native.Nat.{ℕ}
 use native.Mathlib.Omega.{arith}
+use native.Mathlib.Decide.{ℕ-discrete}
+use Rattle.sorts.specs.Numbers.{allMarks}
 use Rattle.sorts.specs.RowForm.{RowForm}
 use Rattle.book.specs.declared.Book.{Book}
-use Rattle.machine.specs.Machine.{State, start}
+use Rattle.machine.specs.Machine.{State, Step, start, feed}
 use Rattle.book.specs.Books.{BookForm, Shows}
-use Rattle.book.specs.Chains.{runs}
+use Rattle.book.specs.Chains.{freshMarks, Fed, runs}
 use Rattle.book.proofs.Forms.{table-rows}
 use Rattle.demands.proofs.RowBack.{shown-row}
 use Rattle.demands.proofs.ClosedBook.{shown}
-use Rattle.demands.proofs.Reached.{fresh-reached}
-use Rattle.demands.proofs.Demand3.{after}
-use Rattle.demands.proofs.Existence.{chain-some}
+use Rattle.demands.proofs.Reached.{Reached, fresh-reached, fed-other, reached-after}
+use Rattle.demands.proofs.Existence.{call-some, blank-preview}
 use Rattle.query.specs.Query.{Formed}
 
 -- a state that a book in form shows
@@ -29,9 +30,30 @@ formed b m k M f sh =
       within = sh .within;
     }
 
--- Every state that the machine reaches, by whatever records.
-pub reached-formed : (ss : List (List ℕ)) → Formed (runs start ss)
-reached-formed ss =
-    let K = chain-some ss in
-    let R = after fresh-reached (K .chain) .reached in
-    subst (λ (l : List (List ℕ)). Formed (runs start l)) (K .same) (formed (K .book) (K .marks) (K .second) _ (R .form) (R .shows))
+-- some book is reached that shows the state
+record Some (M : State) : Type 0 where
+  book : Book
+  marks : List ℕ
+  second : List ℕ
+  reached : Reached book marks second M
+
+-- one record more: by a call, or, where the preview buffer is not as long as the marks, by none
+some-fed : (f : Fed) {M : State} → Some M → Some (feed M (f .room) (f .bytes) .next)
+some-fed f {M} S = go (ℕ-discrete (f .room) allMarks)
+  where
+    go : Dec (f .room ≡ allMarks) → Some (feed M (f .room) (f .bytes) .next)
+    go (yes e) =
+        let C = call-some (S .book) (S .marks) (S .second) freshMarks (f .bytes) (record { book = S .reached .form; preview = blank-preview }) in
+        subst (λ (u : ℕ). Some (feed M u (f .bytes) .next)) (blank-preview ∙ sym e) (record { book = _; marks = _; second = _; reached = reached-after (S .reached) C })
+    go (no d) = subst Some (sym (ap (λ (x : Step). x .next) (fed-other M (f .room) (f .bytes) d))) S
+
+some-runs : (fs : List Fed) {M : State} → Some M → Some (runs M fs)
+unfolding runs
+some-runs [] S = S
+some-runs (f ∷ fs) S = some-runs fs (some-fed f S)
+
+-- Every state that the machine reaches, by whatever records, and whatever preview buffers are lent with them.
+pub reached-formed : (fs : List Fed) → Formed (runs start fs)
+reached-formed fs =
+    let S = some-runs fs (record { book = _; marks = _; second = _; reached = fresh-reached }) in
+    formed (S .book) (S .marks) (S .second) (runs start fs) (S .reached .form) (S .reached .shows)

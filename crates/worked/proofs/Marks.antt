@@ -13,7 +13,7 @@ use Rattle.rules.proofs.Saturation.{same-marks}
 use Rattle.machine.specs.Machine.{State, start}
 use Rattle.blocks.specs.Gains.{gains}
 use Rattle.marks.specs.Counts.{Statements, truths, sayings, ones, marksOf, changeOf, countsOf, changeIn}
-use Rattle.book.specs.Chains.{runs}
+use Rattle.book.specs.Chains.{Fed, runs}
 use Rattle.demands.proofs.Balance.{balance, kind-length, kind-bits}
 use Rattle.demands.proofs.Existence.{chain-some}
 use Rattle.demands.proofs.Demand3.{demand-3}
@@ -24,7 +24,7 @@ pub marks-some : (es : List Record) → (m : List ℕ) × MarksOf (machine es) m
 marks-some es =
     let K = chain-some (map writtenRecord es) in
     let D = demand-3 (K .calls) (K .book) (K .marks) (K .second) (K .chain) in
-    (K .marks, subst (λ (ss : List (List ℕ)). MarksOf (runs start ss) (K .marks)) (K .same) (record { size = D .form .marks .count; bits = D .form .marks .bits; stand = D .marks }))
+    (K .marks, subst (λ (fs : List Fed). MarksOf (runs start fs) (K .marks)) (K .same) (record { size = D .form .marks .count; bits = D .form .marks .bits; stand = D .marks }))
 
 -- A state has one list of marks.
 pub marks-one : (M : State) (l m : List ℕ) → MarksOf M l → MarksOf M m → l ≡ m

@@ -1,18 +1,19 @@
 -- The table of worked examples, proved: a list of the standing statements for each example, and one test over all of them.
-use mathlib.Core.Path.{_≡_, refl, ap, _∙_}
+use mathlib.Core.Path.{_≡_, refl, sym, ap, _∙_}
 use mathlib.Core.Bool.{Bool, true, false, not}
 use mathlib.Core.List.{List, [], _∷_}
 use Prim.Native.Nat.{ℕ, zero, suc}
 use lib.Dec.{T, eqb, eqb→eq}
 use lib.IntN.{ℤ, pos, negsuc, _-ℤ_}
 use lib.ListN.{length}
+use Rattle.rows.specs.Written.{sameWritten}
+use Rattle.rows.proofs.Bytes.{same-eq}
 use Rattle.reader.specs.Records.{Record}
-use Rattle.exact.specs.Writing.{writtenRecord}
-use Rattle.machine.specs.Machine.{State, Verdict, changes, asks, refuses, start, step}
+use Rattle.machine.specs.Machine.{State, Verdict, changes, previews, asks, refuses, start}
 use Rattle.machine.proofs.Choices.{permitted-none, not-permitted-all, open-both}
 use Rattle.marks.specs.Counts.{Statements, truths, sayings, countsOf, changeIn}
 use Rattle.demands.proofs.Views.{firm, both as withAll}
-use Rattle.worked.specs.Worked.{machine, Accepted, numberIn, Answer, permitted, not-permitted, undecided, marks, each, nets, MarksOf, Says, All, Example, Right, table}
+use Rattle.worked.specs.Worked.{machine, taken, accepting, Accepted, numberIn, Answer, permitted, not-permitted, undecided, marks, each, nets, MarksOf, Says, All, Example, Right, table}
 use Rattle.worked.proofs.Computing.{listed, fed, rowed, grounded}
 use Rattle.worked.proofs.Certified.{both, left, right, memb, ofKind, certified, present, missing, counted, counted-kind}
 use Rattle.worked.proofs.Marks.{net-is}
@@ -27,14 +28,22 @@ record Certificate : Type 0 where
 
 -- The tests: the listed statements are those that stand, each record is accepted, and each answer is right of the list.
 
-abbrev pub acceptsb : Verdict → Bool
-acceptsb changes = true
-acceptsb (asks c) = false
-acceptsb (refuses k) = false
+-- the first is a change or a preview, and the second is the same
+abbrev pub saysb : Verdict → Verdict → Bool
+saysb changes changes = true
+saysb changes (previews q h) = false
+saysb changes (asks c) = false
+saysb changes (refuses k) = false
+saysb (previews p g) changes = false
+saysb (previews p g) (previews q h) = both (eqb (p .0) (q .0)) (sameWritten g h)
+saysb (previews p g) (asks c) = false
+saysb (previews p g) (refuses k) = false
+saysb (asks c) w = false
+saysb (refuses k) w = false
 
 abbrev pub acceptedb : State → List Record → Bool
 acceptedb M [] = true
-acceptedb M (e ∷ es) = both (acceptsb (step M (writtenRecord e) .says)) (acceptedb (step M (writtenRecord e) .next) es)
+acceptedb M (e ∷ es) = both (saysb (accepting e) (taken M e .says)) (acceptedb (taken M e .next) es)
 
 abbrev sameb : ℤ → ℤ → Bool
 sameb (pos a) (pos b) = eqb a b
@@ -68,17 +77,31 @@ tests (e ∷ es) (k ∷ ks) = both (lineb e k) (tests es ks)
 
 -- The tests turned into what the table says.
 
-accepts : (v : Verdict) → T (acceptsb v) → v ≡ changes
-accepts changes t = refl
-accepts (asks c) t = absurd t
-accepts (refuses k) t = absurd t
+is-true : (b : Bool) → T b → b ≡ true
+is-true true t = refl
+is-true false t = absurd t
+
+says : (v w : Verdict) → T (saysb v w) → w ≡ v
+says changes changes t = refl
+says changes (previews q h) t = absurd t
+says changes (asks c) t = absurd t
+says changes (refuses k) t = absurd t
+says (previews p g) changes t = absurd t
+says (previews p g) (previews q h) t =
+    let i = eqb→eq (p .0) (q .0) (left (eqb (p .0) (q .0)) (sameWritten g h) t) in
+    let j = same-eq g h (is-true (sameWritten g h) (right (eqb (p .0) (q .0)) (sameWritten g h) t)) in
+    sym (λ x. previews (record { 0 = i x }) (j x))
+says (previews p g) (asks c) t = absurd t
+says (previews p g) (refuses k) t = absurd t
+says (asks c) w t = absurd t
+says (refuses k) w t = absurd t
 
 pub accepted : (M : State) (es : List Record) → T (acceptedb M es) → Accepted M es
 accepted M [] t = tt
 accepted M (e ∷ es) t =
-    let a = acceptsb (step M (writtenRecord e) .says) in
-    let b = acceptedb (step M (writtenRecord e) .next) es in
-    (accepts (step M (writtenRecord e) .says) (left a b t), accepted (step M (writtenRecord e) .next) es (right a b t))
+    let a = saysb (accepting e) (taken M e .says) in
+    let b = acceptedb (taken M e .next) es in
+    (says (accepting e) (taken M e .says) (left a b t), accepted (taken M e .next) es (right a b t))
 
 same-int : (y z : ℤ) → T (sameb y z) → y ≡ z
 same-int (pos a) (pos b) t = ap pos (eqb→eq a b t)
@@ -205,6 +228,12 @@ certificates =
     ∷ only []
     -- firm either way
     ∷ only (292 ∷ 4898 ∷ 2592 ∷ [])
+    -- a lab that leaves, with its withdrawal previewed, and done
+    ∷ only (831 ∷ 863 ∷ 2592 ∷ 4896 ∷ [])
+    ∷ against (831 ∷ 863 ∷ 2592 ∷ 4896 ∷ []) (831 ∷ 863 ∷ 2592 ∷ 4896 ∷ [])
+    ∷ against (831 ∷ 4896 ∷ []) (831 ∷ 863 ∷ 2592 ∷ 4896 ∷ [])
+    -- a preview of the chain's provisional licence
+    ∷ record { now = 2592 ∷ []; most = 292 ∷ 7203 ∷ 4898 ∷ 2592 ∷ []; before = 2592 ∷ [] }
     ∷ []
 
 computed : T (tests table certificates)

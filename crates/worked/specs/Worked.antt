@@ -11,13 +11,13 @@ use Rattle.sorts.specs.declared.Status.the-variants.{Trusted, Issued, Provision
 use Rattle.sorts.specs.Numbers.{numberOf, allMarks}
 use Rattle.rows.specs.Written.{Grant, Concl, grant, none, also, property, perm, issue, issueAny, run, export}
 use Rattle.rows.specs.Form.{conclOf}
-use Rattle.canon.specs.Canon.{canonConcl}
-use Rattle.reader.specs.Records.{Record, enter, remove, confirm}
+use Rattle.canon.specs.Canon.{canon, canonConcl}
+use Rattle.reader.specs.Records.{Record, enter, remove, confirm, preview, query}
 use Rattle.exact.specs.Writing.{writtenRecord}
-use Rattle.machine.specs.Machine.{State, changes, start, step}
+use Rattle.machine.specs.Machine.{State, Step, Verdict, changes, previews, start, feed}
 use Rattle.machine.specs.Closed.{Stands, none as noneChosen}
 use Rattle.machine.specs.Choices.{AlwaysStands, NeverStands, Undecided}
-use Rattle.book.specs.Chains.{runs}
+use Rattle.book.specs.Chains.{whole, runs}
 use Rattle.marks.specs.Counts.{truths, sayings, ones, marksOf, countsOf}
 
 -- "Smart 0, Attractive 1, Good 2, Great 3, Trusted 4."
@@ -86,14 +86,32 @@ provisional q g = enter (Provisional (record { 0 = q })) g
 abbrev pub countersign : ℕ → Grant → Record
 countersign q g = confirm (record { 0 = q }) g
 
--- "It is fed the bytes of each call's record, and nothing from the book or its answers": the plain machine after the records.
+-- Document 02, 6: "Record PV has the form and refusals of WD": what the withdrawal of a licence of q would take away is looked up.
+abbrev pub preview-withdrawal : ℕ → Grant → Record
+preview-withdrawal q g = preview (record { 0 = q }) g
+
+-- "It is fed the bytes of each call's record, and nothing from the book or its answers": the plain machine after the records, each
+-- with a preview buffer as long as the marks.
 abbrev pub machine : List Record → State
-machine es = runs start (map writtenRecord es)
+machine es = runs start (map whole (map writtenRecord es))
+
+-- Its step at a record.
+abbrev pub taken : State → Record → Step
+taken M e = feed M allMarks (writtenRecord e)
+
+-- What it says of a record that it accepts: what stands changes, but by PV, which previews a withdrawal. An example has no QU: of that
+-- the machine never says so.
+abbrev pub accepting : Record → Verdict
+accepting (enter by g) = changes
+accepting (remove by g) = changes
+accepting (confirm p g) = changes
+accepting (preview p g) = previews p (canon g)
+accepting (query c) = changes
 
 -- "From those bytes, T, L and N alone it accepts the record or refuses it": it accepts each one.
 abbrev pub Accepted : State → List Record → Type 0
 Accepted M [] = Unit {0}
-Accepted M (e ∷ es) = (step M (writtenRecord e) .says ≡ changes) × Accepted (step M (writtenRecord e) .next) es
+Accepted M (e ∷ es) = (taken M e .says ≡ accepting e) × Accepted (taken M e .next) es
 
 -- The number of a written conclusion. "Mark c says that conclusion c is true." Document 02, 3: "numbers follow that form".
 abbrev pub numberIn : State → Concl → ℕ
@@ -403,6 +421,46 @@ entered-twice =
       answers = permitted (trusted 2) ∷ marks 3 ∷ [];
     }
 
+-- Document 02, 6: "Preview of a withdrawal." A lab before it leaves a project. 0: Smart(2). 1: Smart(2). T: 0 said Smart(2) gives
+-- Perm(5, run, 31). T: 1 said Smart(2) gives Perm(5, run, 31). T: 0 said Smart(2) gives Perm(5, export, 31). Run and export permitted;
+-- 4 marks.
+unfoldable pub leaving : Example
+leaving =
+    record {
+      entries =
+          licence 0 (plain (smart 2))
+          ∷ licence 1 (plain (smart 2))
+          ∷ trust (when 0 (smart 2) (perm 5 (run 31)))
+          ∷ trust (when 1 (smart 2) (perm 5 (run 31)))
+          ∷ trust (when 0 (smart 2) (perm 5 (export 31)))
+          ∷ [];
+      answers = permitted (perm 5 (run 31)) ∷ permitted (perm 5 (export 31)) ∷ marks 4 ∷ [];
+    }
+
+-- The withdrawal of 0's is previewed. "The book is untouched": both are permitted as before; 4 marks, with no net.
+unfoldable pub leaving-previewed : Example
+leaving-previewed =
+    record {
+      entries = leaving .entries ++ (preview-withdrawal 0 (plain (smart 2)) ∷ []);
+      answers = permitted (perm 5 (run 31)) ∷ permitted (perm 5 (export 31)) ∷ marks 4 ∷ nets (leaving .entries) (pos 0) (pos 0) ∷ [];
+    }
+
+-- Then 0's is withdrawn. Run permitted, by what 1 said, and export not; 2 marks: a net of -1 truth and of -1 saying.
+unfoldable pub leaving-withdrawn : Example
+leaving-withdrawn =
+    record {
+      entries = leaving-previewed .entries ++ (withdraw 0 (plain (smart 2)) ∷ []);
+      answers = permitted (perm 5 (run 31)) ∷ not-permitted (perm 5 (export 31)) ∷ marks 2 ∷ nets (leaving-previewed .entries) (negsuc 0) (negsuc 0) ∷ [];
+    }
+
+-- A preview of a provisional licence: that of 1 in the chain, which stays provisional. Trusted(2) open; 1 mark, with no net.
+unfoldable pub chain-previewed : Example
+chain-previewed =
+    record {
+      entries = chain .entries ++ (preview-withdrawal 1 (when 0 (smart 2) (good 2)) ∷ []);
+      answers = undecided (trusted 2) ∷ marks 1 ∷ nets (chain .entries) (pos 0) (pos 0) ∷ [];
+    }
+
 -- The table.
 unfoldable pub table : List Example
 table =
@@ -413,4 +471,6 @@ table =
     ∷ another-path
     ∷ waiting-circle
     ∷ entered-twice
+    ∷ leaving ∷ leaving-previewed ∷ leaving-withdrawn
+    ∷ chain-previewed
     ∷ []
