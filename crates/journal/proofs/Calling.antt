@@ -12,20 +12,26 @@ use Rattle.places.specs.Places.{restAfter}
 use Rattle.journal.specs.Journals.{Calls, ended, then}
 
 -- the calls of a journal are a list of calls, each on the book and marks that the last one left
-pub calls-chain : {b b′ : Book} {m m′ k k′ s : List ℕ} {cs : List Call} → Calls b m k s cs b′ m′ k′ → Chain b m k cs b′ m′ k′
+pub calls-chain : {b b′ : Book} {m m′ k k′ v v′ s : List ℕ} {cs : List Call} → Calls b m k v s cs b′ m′ k′ v′ → Chain b m k cs b′ m′ k′
 calls-chain ended = chains.none
-calls-chain (then s r n l h C x) = chains.then s r n l C (calls-chain x)
+calls-chain (then s r n l w h C x) = chains.then s _ r n l w C (calls-chain x)
 
--- two calls of the same bytes, from the same book and marks, are the same
-pub calls-only : {b b₁ b₂ : Book} {m m₁ m₂ k k₁ k₂ s : List ℕ} {cs ds : List Call} → Calls b m k s cs b₁ m₁ k₁ → Calls b m k s ds b₂ m₂ k₂ → (cs ≡ ds) × (b₁ ≡ b₂) × (m₁ ≡ m₂) × (k₁ ≡ k₂)
+-- two calls of the same bytes, from the same book and buffers, are the same
+pub calls-only : {b b₁ b₂ : Book} {m m₁ m₂ k k₁ k₂ v v₁ v₂ s : List ℕ} {cs ds : List Call} → Calls b m k v s cs b₁ m₁ k₁ v₁ → Calls b m k v s ds b₂ m₂ k₂ v₂ →
+    (cs ≡ ds) × (b₁ ≡ b₂) × (m₁ ≡ m₂) × (k₁ ≡ k₂)
 calls-only ended ended = (refl, refl, refl, refl)
-calls-only ended (then s r n l h C x) = absurd (omega arith)
-calls-only (then s r n l h C x) ended = absurd (omega arith)
-calls-only {b} {b₁} {b₂} {m} {m₁} {m₂} {k} {k₁} {k₂} (then {cs = cs} s r n l h C x) (then {cs = ds} t r′ n′ l′ h′ C′ y) =
-    let e = no-choice b m k s r r′ n n′ l l′ C C′ in
-    let z : Calls (r .book) n l (restAfter (r .used) s) ds b₂ m₂ k₂ =
-    subst (λ (a : Answered). Calls (a .book) n l (restAfter (a .used) s) ds b₂ m₂ k₂) (sym (e .0))
-    (subst (λ (i : List ℕ). Calls (r′ .book) i l (restAfter (r′ .used) s) ds b₂ m₂ k₂) (sym (e .1))
-    (subst (λ (i : List ℕ). Calls (r′ .book) n′ i (restAfter (r′ .used) s) ds b₂ m₂ k₂) (sym (e .2)) y)) in
-    let w = calls-only x z in
-    (λ i. record { record′ = s; before = b; marks = m; second = k; gave = e .0 i; left = e .1 i; leftSecond = e .2 i } ∷ w .0 i, w .1, w .2, w .3)
+calls-only ended (then s r n l w h C x) = absurd (omega arith)
+calls-only (then s r n l w h C x) ended = absurd (omega arith)
+calls-only {b} {b₁} {b₂} {m} {m₁} {m₂} {k} {k₁} {k₂} {v} {v₁} {v₂} (then {cs = cs} s r n l w h C x) (then {cs = ds} t r′ n′ l′ w′ h′ C′ y) =
+    let e = no-choice b m k v s r r′ n n′ l l′ w w′ C C′ in
+    let z : Calls (r .book) n l w (restAfter (r .used) s) ds b₂ m₂ k₂ v₂ =
+    subst (λ (a : Answered). Calls (a .book) n l w (restAfter (a .used) s) ds b₂ m₂ k₂ v₂) (sym (e .0))
+    (subst (λ (i : List ℕ). Calls (r′ .book) i l w (restAfter (r′ .used) s) ds b₂ m₂ k₂ v₂) (sym (e .1))
+    (subst (λ (i : List ℕ). Calls (r′ .book) n′ i w (restAfter (r′ .used) s) ds b₂ m₂ k₂ v₂) (sym (e .2))
+    (subst (λ (i : List ℕ). Calls (r′ .book) n′ l′ i (restAfter (r′ .used) s) ds b₂ m₂ k₂ v₂) (sym (e .3)) y))) in
+    let u = calls-only x z in (
+      λ i. record { record′ = s; before = b; marks = m; second = k; preview = v; gave = e .0 i; left = e .1 i; leftSecond = e .2 i; leftPreview = e .3 i } ∷ u .0 i,
+      u .1,
+      u .2,
+      u .3,
+    )

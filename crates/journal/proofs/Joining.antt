@@ -22,6 +22,11 @@ pub changed-joined : (s : List ℕ) (k : Kind) (c : Counts) → lettersOf k ≡ 
 unfolding said saidPieces
 changed-joined s k c e = simp (joined-cons, each-joined, joined-none, e, append-assoc)
 
+-- "The listing prints PV like WD."
+pub previewed-joined : (s : List ℕ) (k : Kind) (c : Counts) → lettersOf k ≡ lettersIn s → Says s (answer.Previewed c) (says.Changed k c)
+unfolding said saidPieces
+previewed-joined s k c e = simp (joined-cons, each-joined, joined-none, e, append-assoc)
+
 pub permitted-joined : (s : List ℕ) (k : Kind) → lettersOf k ≡ lettersIn s → Says s answer.Permitted (says.Permitted k)
 unfolding said saidPieces
 permitted-joined s k e = simp (joined-cons, joined-none, e, append-assoc)

@@ -10,7 +10,7 @@ use Rattle.reader.specs.Records.{Record, readMark, readRecord, readCanonical}
 use Rattle.book.specs.declared.Book.{Book}
 use Rattle.book.specs.declared.Answered.{Answered}
 use Rattle.book.specs.declared.Answer.{Answer}
-use Rattle.book.specs.declared.Answer.the-variants.{Permitted, Open, NotPermitted, Changed, Refused}
+use Rattle.book.specs.declared.Answer.the-variants.{Permitted, Open, NotPermitted, Changed, Previewed, Refused}
 use Rattle.machine.specs.Machine.{State, acted, step}
 use Rattle.book.specs.Calls.{answerOf, Called}
 use Rattle.demands.proofs.Shown.{shows-some}
@@ -25,24 +25,27 @@ unread : (s : List ℕ) (j : ℕ) → readMark s ≡ refused j → readCanonical
 unfolding readRecord readCanonical
 unread s j e = rw e
 
-says-refused : (M : State) (s m k n : List ℕ) (j : ℕ) → readMark s ≡ refused j → answerOf (step M s .says) m k n ≡ Refused j
+says-refused : (M : State) (s m k n w : List ℕ) (j : ℕ) → readMark s ≡ refused j → answerOf (step M s .says) m k n w ≡ Refused j
 unfolding step answerOf
-says-refused M s m k n j e = ap (λ (o : Outcome Record). answerOf (acted M o .says) m k n) (unread s j e)
+says-refused M s m k n w j e = ap (λ (o : Outcome Record). answerOf (acted M o .says) m k n w) (unread s j e)
 
 read-opened : (s : List ℕ) (k : Kind) (n : ℕ) → readMark s ≡ got k n → (a : Answer) → Opened s a
 read-opened s k n e (Changed c) = λ j f. let z : _≡_ {A = ℕ} 0 1 = cc in omega arith
+read-opened s k n e (Previewed c) = λ j f. let z : _≡_ {A = ℕ} 0 1 = cc in omega arith
 read-opened s k n e Permitted = λ j f. let z : _≡_ {A = ℕ} 0 1 = cc in omega arith
 read-opened s k n e Open = λ j f. let z : _≡_ {A = ℕ} 0 1 = cc in omega arith
 read-opened s k n e NotPermitted = λ j f. let z : _≡_ {A = ℕ} 0 1 = cc in omega arith
 read-opened s k n e (Refused j) = tt
 
-pub called-opened : (b : Book) (m k s : List ℕ) (r : Answered) (n l : List ℕ) → Called b m k s r n l → Opened s (r .answer)
-called-opened b m k s r n l C = go (readMark s) refl
+pub called-opened : (b : Book) (m k v s : List ℕ) (r : Answered) (n l w : List ℕ) → Called b m k v s r n l w → Opened s (r .answer)
+called-opened b m k v s r n l w C = go (readMark s) refl
   where
     go : (o : Outcome Kind) → readMark s ≡ o → Opened s (r .answer)
     go (got h i) e = read-opened s h i e (r .answer)
     go (refused j) e =
         ⊎-elim
-        (λ f. let w = shows-some b m k f in refusal-opened s (r .answer) j (C .formed f (w .0) (w .1) .answer ∙ says-refused (w .0) s m k n j e))
+        (λ f.
+        let x = shows-some b m k (f .book) in
+        refusal-opened s (r .answer) j (C .formed f (x .0) (x .1) .answer ∙ says-refused (x .0) s m k n w j e))
         (λ g. refusal-opened s (r .answer) 9 (ap (λ (x : Answered). x .answer) (C .unformed g .0)))
         (C .decided)

@@ -8,7 +8,7 @@ use Rattle.reader.specs.Records.{readMark}
 use Rattle.marks.specs.declared.Counts.{Counts}
 use Rattle.marks.specs.Counts.{ones}
 use Rattle.book.specs.declared.Answer.{Answer}
-use Rattle.book.specs.declared.Answer.the-variants.{Permitted, Open, NotPermitted, Changed, Refused}
+use Rattle.book.specs.declared.Answer.the-variants.{Permitted, Open, NotPermitted, Changed, Previewed, Refused}
 use Rattle.digits.specs.Decimals.{decimal, signed}
 use Rattle.pieces.specs.Words.{space, newline, permitted, openWord, notPermitted, refusedWord, endWord, marksWord}
 use Rattle.lines.specs.declared.Said.{Said}
@@ -23,9 +23,10 @@ abbrev pub nets : Counts → List ℕ
 nets c = space ++ signed (c .truths .net) ++ space ++ signed (c .sayings .net)
 
 -- "then its letters and signed net, or letters and the query's answer, or `refused` and the number": what the line of the
--- record that s starts with says of the answer. Document 02, 5: "`open` after QU".
+-- record that s starts with says of the answer. Document 02, 5: "`open` after QU"; 6: "The listing prints PV like WD."
 unfoldable pub said : List ℕ → Answer → List ℕ
 said s (Changed c) = lettersIn s ++ nets c
+said s (Previewed c) = lettersIn s ++ nets c
 said s Permitted = lettersIn s ++ permitted
 said s Open = lettersIn s ++ openWord
 said s NotPermitted = lettersIn s ++ notPermitted
@@ -48,6 +49,7 @@ endOf n m = endWord ++ decimal n ++ marksWord ++ decimal (ones m) ++ newline
 -- `called-opened`.)
 abbrev pub Opened : List ℕ → Answer → Type 0
 Opened s (Changed c) = (j : ℕ) → readMark s ≡ refused j → ⊥
+Opened s (Previewed c) = (j : ℕ) → readMark s ≡ refused j → ⊥
 Opened s Permitted = (j : ℕ) → readMark s ≡ refused j → ⊥
 Opened s Open = (j : ℕ) → readMark s ≡ refused j → ⊥
 Opened s NotPermitted = (j : ℕ) → readMark s ≡ refused j → ⊥

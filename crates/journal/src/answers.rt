@@ -34,6 +34,7 @@ fn saying(s: &[u8], a: Answer) -> Said
         Answer::Open => Said::Open(kind_of(s)),
         Answer::NotPermitted => Said::NotPermitted(kind_of(s)),
         Answer::Changed(c) => Said::Changed(kind_of(s), c),
+        Answer::Previewed(c) => Said::Changed(kind_of(s), c),
         Answer::Refused(k) => Said::Refused(k),
     }
 }

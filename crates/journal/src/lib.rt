@@ -18,11 +18,19 @@ pub struct Stepped {
 }
 
 // The call on the part of the journal that starts at the next record, which is record n.
-pub fn step(b: Book, marks: &mut [u8], second: &mut [u8], s: &[u8], at: usize, n: usize) -> Stepped
+pub fn step(
+    b: Book,
+    marks: &mut [u8],
+    second: &mut [u8],
+    preview: &mut [u8],
+    s: &[u8],
+    at: usize,
+    n: usize,
+) -> Stepped
     requires { ⌜ at ≤ length (now s) ⌝ }
-    ensures { λ r. ⌜ Steps b (now (marks .entry)) (now (second .entry)) (now (s .entry)) at n r (now (marks .exit)) (now (second .exit)) ⌝ }
+    ensures { λ r. ⌜ Steps b (now (marks .entry)) (now (second .entry)) (now (preview .entry)) (now (s .entry)) at n r (now (marks .exit)) (now (second .exit)) (now (preview .exit)) ⌝ }
 {
-    let answered = book::call(b, marks, second, &s[at..]);
+    let answered = book::call(b, marks, second, preview, &s[at..]);
     let answer = answered.answer;
     let line = answers::record_line(n, &s[at..], answer);
     let next = places::next_place(s.len(), at, answered.used);
@@ -34,15 +42,15 @@ pub fn step(b: Book, marks: &mut [u8], second: &mut [u8], s: &[u8], at: usize, n
 }
 
 // The book that the records of a journal leave, read from a fresh one on; the marks in both buffers lent with it are those that
-// they leave.
-pub fn book_after(s: &[u8], marks: &mut [u8], second: &mut [u8]) -> Book
-    requires { ⌜ (now marks ≡ freshMarks) × (now second ≡ freshMarks) ⌝ }
+// they leave. The preview buffer is lent with each record.
+pub fn book_after(s: &[u8], marks: &mut [u8], second: &mut [u8], preview: &mut [u8]) -> Book
+    requires { ⌜ (now marks ≡ freshMarks) × (now second ≡ freshMarks) × (now preview ≡ freshMarks) ⌝ }
     ensures { λ b. ⌜ Leaves (now (s .entry)) b (now (marks .exit)) (now (second .exit)) ⌝ }
 {
     let mut b = Book::new();
     let mut at: usize = 0;
     while at < s.len() {
-        let a = book::call(b, marks, second, &s[at..]);
+        let a = book::call(b, marks, second, preview, &s[at..]);
         at = places::next_place(s.len(), at, a.used);
         b = a.book;
     }

@@ -212,8 +212,8 @@ fn write(o: Output, s: &[u8], line: Line) -> Output
 }
 
 // Reads a journal s record by record, from a fresh book, and writes a line for each, and the last line.
-fn list_records(s: &[u8], marks: &mut [u8], second: &mut [u8]) -> Output
-    requires { ⌜ (length (now s) ≤ 65536) × (now marks ≡ freshMarks) × (now second ≡ freshMarks) ⌝ }
+fn list_records(s: &[u8], marks: &mut [u8], second: &mut [u8], preview: &mut [u8]) -> Output
+    requires { ⌜ (length (now s) ≤ 65536) × (now marks ≡ freshMarks) × (now second ≡ freshMarks) × (now preview ≡ freshMarks) ⌝ }
     ensures { λ r. ⌜ Finished (now (s .entry)) (r .lines) ⌝ }
 {
     let mut b = Book::new();
@@ -223,7 +223,7 @@ fn list_records(s: &[u8], marks: &mut [u8], second: &mut [u8]) -> Output
         open: true,
     };
     while at < s.len() {
-        let r = journal::step(b, marks, second, s, at, o.lines + 1);
+        let r = journal::step(b, marks, second, preview, s, at, o.lines + 1);
         let a = r.answered;
         let line = r.line;
         o = write(o, s, line);
@@ -234,8 +234,8 @@ fn list_records(s: &[u8], marks: &mut [u8], second: &mut [u8]) -> Output
 }
 
 // The listing of the bytes that were read, to the end of the input or of their room, with no failure.
-fn list(i: Input, bytes: &[u8], marks: &mut [u8], second: &mut [u8]) -> Output
-    requires { ⌜ (i .open ≡ false) × (i .failed ≡ false) × Counts (i .n) (now bytes) × (now marks ≡ freshMarks) × (now second ≡ freshMarks) ⌝ }
+fn list(i: Input, bytes: &[u8], marks: &mut [u8], second: &mut [u8], preview: &mut [u8]) -> Output
+    requires { ⌜ (i .open ≡ false) × (i .failed ≡ false) × Counts (i .n) (now bytes) × (now marks ≡ freshMarks) × (now second ≡ freshMarks) × (now preview ≡ freshMarks) ⌝ }
     ensures { λ r. ⌜ Finished (take (i .n) (now (bytes .entry))) (r .lines) ⌝ }
 {
     let n = i.n;
@@ -246,19 +246,20 @@ fn list(i: Input, bytes: &[u8], marks: &mut [u8], second: &mut [u8]) -> Output
         };
         return write(o, &bytes[..n], answers::refused_line(8));
     }
-    list_records(&bytes[..n], marks, second)
+    list_records(&bytes[..n], marks, second, preview)
 }
 
 fn main() {
     let mut bytes = [0u8; 65537];
     let mut marks = [0u8; Number::MARKS];
     let mut second = [0u8; Number::MARKS];
+    let mut preview = [0u8; Number::MARKS];
     let i = read_all(&mut bytes);
     if i.failed {
         io::write_all(STDERR_FILENO, b"listing: reading failed\n");
         return;
     }
-    let written = list(i, &bytes, &mut marks, &mut second).open;
+    let written = list(i, &bytes, &mut marks, &mut second, &mut preview).open;
     if !written {
         io::write_all(STDERR_FILENO, b"listing: writing failed\n");
     }

@@ -10,8 +10,9 @@ use lib.Seq.{length-take-le}
 use lib.Dec.{eqb}
 use Rattle.rows.specs.Numbering.{number, numberConcl}
 use Rattle.ranges.specs.Bytes.{Outcome, got, refused}
-use Rattle.sorts.specs.declared.Status.the-variants.{Provisional}
-use Rattle.reader.specs.Records.{Record, enter, remove, confirm, query, readRecord, readCanonical}
+use Rattle.sorts.specs.declared.Status.the-variants.{Issued, Provisional}
+use Rattle.sorts.specs.Numbers.{allMarks}
+use Rattle.reader.specs.Records.{Record, enter, remove, confirm, preview, query, readRecord, readCanonical}
 use Rattle.reader.specs.Requests.{fits}
 use Rattle.reader.specs.Records.{lettersOf}
 use Rattle.exact.specs.Writing.{kindOf, contentOf, writtenRecord}
@@ -19,12 +20,13 @@ use Rattle.exact.proofs.Letters.{two-letters}
 use Rattle.exact.proofs.Exact.{record-exact}
 use Rattle.exact.proofs.CanonicalRecords.{canonical-got, canonical-refused}
 use Rattle.exact.proofs.Faults.{fault-range}
+use Rattle.rules.proofs.Standing.{standing-length}
 use Rattle.book.specs.declared.Book.{Book}
 use Rattle.book.specs.declared.Answer.the-variants.{Permitted, Open, NotPermitted}
 use Rattle.book.specs.declared.Answered.{Answered}
-use Rattle.machine.specs.Machine.{State, Step, Verdict, changes, asks, refuses, act, acted, step, stands, there}
-use Rattle.book.specs.Books.{BookForm, Shows}
-use Rattle.book.specs.Calls.{answerOf, Called}
+use Rattle.machine.specs.Machine.{State, Step, Verdict, changes, previews, asks, refuses, act, acted, step, stands, there}
+use Rattle.book.specs.Books.{Lent, Shows}
+use Rattle.book.specs.Calls.{answerOf, previewAfter, Called}
 use Rattle.book.specs.Chains.{Call}
 use Rattle.journal.specs.Journals.{Calls, ended, then}
 use Rattle.listings.specs.Listings.{Ends, AllEnd}
@@ -45,6 +47,7 @@ record-long s r n e =
 -- what the machine says ends the reading
 abbrev Ending : Verdict → Type 0
 Ending changes = ⊥
+Ending (previews p g) = ⊥
 Ending (asks c) = ⊥
 Ending (refuses k) = (1 ≤ k) × (k ≤ 5)
 
@@ -62,6 +65,7 @@ unfolding act
 act-used M (enter by g) n = pick (fits (number g (M .N))) n _ _ (refl, λ x. x) (refl, late 6 (omega arith))
 act-used M (remove by g) n = pick (there by g (M .entries)) n _ _ (refl, λ x. x) (refl, late 7 (omega arith))
 act-used M (confirm p g) n = pick (stands M (Provisional p) g) n _ _ (refl, λ x. x) (refl, late 7 (omega arith))
+act-used M (preview p g) n = pick (there (Issued p) g (M .entries)) n _ _ (refl, λ x. x) (refl, late 7 (omega arith))
 act-used M (query c) n = pick (fits (numberConcl c (M .N))) n _ _ (refl, λ x. x) (refl, late 6 (omega arith))
 
 acted-ends : (M : State) (s : List ℕ) (o : Outcome Record) → readCanonical s ≡ o → (acted M o .used ≡ 0) ↔ Ending (acted M o .says)
@@ -80,25 +84,37 @@ query-ends true u x = x
 query-ends false true x = x
 query-ends false false x = x
 
-answer-ends : (v : Verdict) (m k n : List ℕ) → Ending v ↔ Ends (answerOf v m k n)
+answer-ends : (y : Verdict) (m k n w : List ℕ) → Ending y ↔ Ends (answerOf y m k n w)
 unfolding answerOf
-answer-ends changes m k n = (λ x. x, λ x. x)
-answer-ends (asks c) m k n = (λ x. absurd x, query-ends (eqb (getD m c 0) 1) (eqb (getD k c 0) 1))
-answer-ends (refuses j) m k n = (λ x. x, λ x. x)
+answer-ends changes m k n w = (λ x. x, λ x. x)
+answer-ends (previews p g) m k n w = (λ x. x, λ x. x)
+answer-ends (asks c) m k n w = (λ x. absurd x, query-ends (eqb (getD m c 0) 1) (eqb (getD k c 0) 1))
+answer-ends (refuses j) m k n w = (λ x. x, λ x. x)
 
--- a call on a book in form that shows a state of the machine
-call-ends : (M : State) (b : Book) (m k s : List ℕ) (r : Answered) (n l : List ℕ) → BookForm b m k → Shows b M → Called b m k s r n l → (r .used ≡ 0) ↔ Ends (r .answer)
-call-ends M b m k s r n l B S h =
+-- a call on what is lent in form, whose book shows a state of the machine
+call-ends : (M : State) (b : Book) (m k v s : List ℕ) (r : Answered) (n l w : List ℕ) → Lent b m k v → Shows b M → Called b m k v s r n l w → (r .used ≡ 0) ↔ Ends (r .answer)
+call-ends M b m k v s r n l w B S h =
     let F = h .formed B M S in
     let i = step-ends M s in
-    let j = answer-ends (step M s .says) m k n in
+    let j = answer-ends (step M s .says) m k n w in
     (λ u. subst Ends (sym (F .answer)) (j .0 (i .0 (sym (F .used) ∙ u))), λ x. F .used ∙ i .1 (j .1 (subst Ends (F .answer) x)))
 
--- THE ENDING: in the calls of a journal, from a book in form that shows a state of the machine, those that use no byte are
--- those with the refusals 1 to 5
-pub all-end : {b b′ : Book} {m m′ k k′ s : List ℕ} {cs : List Call} (M : State) → BookForm b m k → Shows b M → Calls b m k s cs b′ m′ k′ → AllEnd cs
+-- a preview buffer as long as the marks stays so
+after-long : (y : Verdict) (M : State) (b : Book) (v : List ℕ) → length v ≡ allMarks → length (previewAfter y M b v) ≡ allMarks
+unfolding previewAfter
+after-long changes M b v e = e
+after-long (previews p g) M b v e = standing-length (b .table .rows) _
+after-long (asks c) M b v e = e
+after-long (refuses j) M b v e = e
+
+pub left-long : (M : State) {b : Book} {m k v s : List ℕ} {r : Answered} {n l w : List ℕ} → Lent b m k v → Shows b M → Called b m k v s r n l w → length w ≡ allMarks
+left-long M {b} {m} {k} {v} {s} B S C = ap (length {A = ℕ}) (C .formed B M S .preview) ∙ after-long (step M s .says) M b v (B .preview)
+
+-- THE ENDING: in the calls of a journal, from what is lent in form, with a book that shows a state of the machine, those that use no
+-- byte are those with the refusals 1 to 5
+pub all-end : {b b′ : Book} {m m′ k k′ v v′ s : List ℕ} {cs : List Call} (M : State) → Lent b m k v → Shows b M → Calls b m k v s cs b′ m′ k′ v′ → AllEnd cs
 unfolding AllEnd
 all-end M B S ended = tt
-all-end {b} {b′} {m} {m′} {k} M B S (then s r n l h C x) =
+all-end {b} {b′} {m} {m′} {k} {k′} {v} M B S (then s r n l w h C x) =
     let F = C .formed B M S in
-    (call-ends M b m k s r n l B S C, all-end (step M s .next) (F .form) (F .shows) x)
+    (call-ends M b m k v s r n l w B S C, all-end (step M s .next) (record { book = F .form; preview = left-long M B S C }) (F .shows) x)

@@ -5,13 +5,15 @@ use mathlib.Core.List.{List, [], _∷_, _++_}
 use native.Mathlib.Omega.{arith}
 use native.Mathlib.Decide.{ℕ-discrete, decLt}
 use lib.ListN.{length, getD, length-drop}
+use Rattle.sorts.specs.Numbers.{allMarks}
 use Rattle.book.specs.declared.Book.{Book}
 use Rattle.machine.specs.Machine.{State, start}
+use Rattle.book.specs.Books.{Lent}
 use Rattle.book.specs.Chains as chains
 use Rattle.book.specs.Chains.{Call, freshBook, freshMarks}
 use Rattle.demands.specs.Demands.{Demand3}
 use Rattle.demands.proofs.Demand3.{demand-3}
-use Rattle.demands.proofs.Existence.{call-some}
+use Rattle.demands.proofs.Existence.{call-some, blank-preview}
 use Rattle.demands.proofs.Reached.{Reached, fresh-form, fresh-shows, fresh-reached, reached-after}
 use Rattle.lines.specs.declared.Line.{Line}
 use Rattle.places.specs.Places.{restAfter}
@@ -21,17 +23,21 @@ use Rattle.journal.specs.Lines.{lineOf, endOf}
 use Rattle.lines.specs.Pieces.{Carries}
 use Rattle.places.proofs.Places.{rest-none, rest-some}
 use Rattle.journal.proofs.Calling.{calls-chain, calls-only}
-use Rattle.listings.proofs.Ending.{all-end}
+use Rattle.listings.proofs.Ending.{left-long, all-end}
 
 -- DEMAND 3 holds of the calls of every journal.
-pub calls-demand-3 : {s m k : List ℕ} {cs : List Call} {b : Book} → Calls freshBook freshMarks freshMarks s cs b m k → Demand3 cs b m k
-calls-demand-3 {s} {m} {k} {cs} {b} x = demand-3 cs b m k (calls-chain x)
+pub calls-demand-3 : {s m k v : List ℕ} {cs : List Call} {b : Book} → Calls freshBook freshMarks freshMarks freshMarks s cs b m k v → Demand3 cs b m k
+calls-demand-3 {s} {m} {k} {v} {cs} {b} x = demand-3 cs b m k (calls-chain x)
+
+-- a fresh book, and three buffers of 0
+fresh-lent : Lent freshBook freshMarks freshMarks freshMarks
+fresh-lent = record { book = fresh-form; preview = blank-preview }
 
 -- So the listing of a journal that is not too long tells of such calls; so do the lines that the program wrote.
 pub listed-told : (s : List ℕ) (ls : List (List ℕ)) → length s ≤ 65536 → Listed s ls → Told s ls
 listed-told s ls h (over l) = absurd (omega arith)
-listed-told s ls h (read cs b m k l x) =
-    record { calls = cs; book = b; marks = m; second = k; made = x; lines = refl; demand = calls-demand-3 x; ends = all-end start fresh-form fresh-shows x }
+listed-told s ls h (read cs b m k v l x) =
+    record { calls = cs; book = b; marks = m; second = k; preview = v; made = x; lines = refl; demand = calls-demand-3 x; ends = all-end start fresh-lent fresh-shows x }
 
 pub ran-told : (s : List ℕ) (k : ℕ) → length s ≤ 65536 → (R : Finished s k) → Told s (R .lines)
 ran-told s k h R = listed-told s (R .lines) h (R .listed)
@@ -46,24 +52,26 @@ rest-less used t k l = go (ℕ-discrete used 0)
     go (no d) = omega (arith, ap (length {A = ℕ}) (rest-some used t d), length-drop used t)
 
 -- Calls of bytes that are left to read.
-pub record SomeCalls (b : Book) (m k t : List ℕ) : Type 0 where
+pub record SomeCalls (b : Book) (m k v t : List ℕ) : Type 0 where
   pub calls : List Call
   pub book : Book
   pub marks : List ℕ
   pub second : List ℕ
-  pub made : Calls b m k t calls book marks second
+  pub preview : List ℕ
+  pub made : Calls b m k v t calls book marks second preview
 
-calls-upto : (j : ℕ) {b : Book} {m k : List ℕ} {M : State} → Reached b m k M → (t : List ℕ) → length t ≤ j → SomeCalls b m k t
-calls-upto zero {b} {m} {k} R [] l = record { calls = []; book = b; marks = m; second = k; made = ended }
-calls-upto zero R (x ∷ t) l = absurd (omega arith)
-calls-upto (suc j) {b} {m} {k} R [] l = record { calls = []; book = b; marks = m; second = k; made = ended }
-calls-upto (suc j) {b} {m} {k} R (x ∷ t) l =
-    let C = call-some b m k (x ∷ t) (R .form) in
-    let K = calls-upto j (reached-after R C) (restAfter _ (x ∷ t)) (rest-less _ (x ∷ t) j l) in
-    record { calls = _; book = K .book; marks = K .marks; second = K .second; made = then (x ∷ t) _ _ _ (omega arith) C (K .made) }
+calls-upto : (j : ℕ) {b : Book} {m k v : List ℕ} {M : State} → Reached b m k M → length v ≡ allMarks → (t : List ℕ) → length t ≤ j → SomeCalls b m k v t
+calls-upto zero {b} {m} {k} {v} R e [] l = record { calls = []; book = b; marks = m; second = k; preview = v; made = ended }
+calls-upto zero R e (x ∷ t) l = absurd (omega arith)
+calls-upto (suc j) {b} {m} {k} {v} R e [] l = record { calls = []; book = b; marks = m; second = k; preview = v; made = ended }
+calls-upto (suc j) {b} {m} {k} {v} {M} R e (x ∷ t) l =
+    let B : Lent b m k v = record { book = R .form; preview = e } in
+    let C = call-some b m k v (x ∷ t) B in
+    let K = calls-upto j (reached-after R C) (left-long M B (R .shows) C) (restAfter _ (x ∷ t)) (rest-less _ (x ∷ t) j l) in
+    record { calls = _; book = K .book; marks = K .marks; second = K .second; preview = K .preview; made = then (x ∷ t) _ _ _ _ (omega arith) C (K .made) }
 
-pub calls-from : {b : Book} {m k : List ℕ} {M : State} → Reached b m k M → (t : List ℕ) → SomeCalls b m k t
-calls-from R t = calls-upto (length t) R t (omega arith)
+pub calls-from : {b : Book} {m k v : List ℕ} {M : State} → Reached b m k M → length v ≡ allMarks → (t : List ℕ) → SomeCalls b m k v t
+calls-from R e t = calls-upto (length t) R e t (omega arith)
 
 -- EVERY JOURNAL has a listing,
 pub listed-some : (s : List ℕ) → (ls : List (List ℕ)) × Listed s ls
@@ -71,14 +79,14 @@ listed-some s = go (decLt 65536 (length s))
   where
     go : Dec (65536 < length s) → (ls : List (List ℕ)) × Listed s ls
     go (yes l) = (_, over (omega arith))
-    go (no l) = let K = calls-from fresh-reached s in (_, read (K .calls) (K .book) (K .marks) (K .second) (omega arith) (K .made))
+    go (no l) = let K = calls-from fresh-reached blank-preview s in (_, read (K .calls) (K .book) (K .marks) (K .second) (K .preview) (omega arith) (K .made))
 
 -- and ONE ONLY.
 pub listed-only : (s : List ℕ) (ls ms : List (List ℕ)) → Listed s ls → Listed s ms → ls ≡ ms
 listed-only s ls ms (over l) (over k) = refl
-listed-only s ls ms (over l) (read cs b m k h x) = absurd (omega arith)
-listed-only s ls ms (read cs b m k h x) (over l) = absurd (omega arith)
-listed-only s ls ms (read cs b m k l x) (read ds b′ m′ k′ h y) =
+listed-only s ls ms (over l) (read cs b m k v h x) = absurd (omega arith)
+listed-only s ls ms (read cs b m k v h x) (over l) = absurd (omega arith)
+listed-only s ls ms (read cs b m k v l x) (read ds b′ m′ k′ v′ h y) =
     let e = calls-only x y in
     λ i. recordLines 1 (e .0 i) ++ (endOf (length (e .0 i)) (e .2 i) ∷ [])
 

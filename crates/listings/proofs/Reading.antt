@@ -5,9 +5,11 @@ use mathlib.Core.List.{List, [], _∷_, _++_, append-assoc, append-nil}
 use native.Mathlib.Omega.{arith}
 use lib.ListN.{length, drop, getD, length-drop, length-append, drop-of-length-le}
 use lib.Seq.{getD-append-seam}
+use Rattle.sorts.specs.Numbers.{allMarks}
 use Rattle.book.specs.declared.Book.{Book}
 use Rattle.machine.specs.Machine.{State, start}
 use Rattle.book.specs.Chains.{Call, freshBook, freshMarks}
+use Rattle.demands.proofs.Existence.{blank-preview}
 use Rattle.demands.proofs.Reached.{Reached, fresh-reached, reached-after}
 use Rattle.journal.specs.declared.Stepped.{Stepped}
 use Rattle.lines.specs.declared.Line.{Line}
@@ -16,41 +18,54 @@ use Rattle.listings.specs.Listings.{Follows, Finished, Listed, over, rea
 use Rattle.lines.specs.Pieces.{Carries}
 use Rattle.journal.specs.Lines.{lineOf, endOf, refusedLine}
 use Rattle.places.proofs.Places.{next-within, next-further, next-rest}
+use Rattle.listings.proofs.Ending.{left-long}
 use Rattle.listings.proofs.Listings.{calls-from, lines-count, line-at}
 
 -- What was read of a journal up to a place, where n lines were written: the calls so far, to which any calls of what is left may be
 -- added.
-pub record Read (s : List ℕ) (b : Book) (m k : List ℕ) (at n : ℕ) : Type 0 where
+pub record Read (s : List ℕ) (b : Book) (m k v : List ℕ) (at n : ℕ) : Type 0 where
   pub calls : List Call
   pub count : length calls ≡ n
   pub within : at ≤ length s
   pub few : n ≤ at
   pub state : State
   pub reached : Reached b m k state
-  pub more : (cs : List Call) (b′ : Book) (m′ k′ : List ℕ) → Calls b m k (drop at s) cs b′ m′ k′ → Calls freshBook freshMarks freshMarks s (calls ++ cs) b′ m′ k′
+  pub room : length v ≡ allMarks
+  pub more : (cs : List Call) (b′ : Book) (m′ k′ v′ : List ℕ) → Calls b m k v (drop at s) cs b′ m′ k′ v′ →
+      Calls freshBook freshMarks freshMarks freshMarks s (calls ++ cs) b′ m′ k′ v′
 
-pub read-none : (s : List ℕ) (b : Book) (m k : List ℕ) → b ≡ freshBook → m ≡ freshMarks → k ≡ freshMarks → Read s b m k 0 0
-read-none s b m k e f g =
-    subst (λ (x : Book). Read s x m k 0 0) (sym e)
-    (subst (λ (x : List ℕ). Read s freshBook x k 0 0) (sym f)
-    (subst (λ (x : List ℕ). Read s freshBook freshMarks x 0 0) (sym g)
-    (record { calls = []; count = refl; within = omega arith; few = omega arith; state = start; reached = fresh-reached; more = λ cs b′ m′ k′ x. x })))
+pub read-none : (s : List ℕ) (b : Book) (m k v : List ℕ) → b ≡ freshBook → m ≡ freshMarks → k ≡ freshMarks → v ≡ freshMarks → Read s b m k v 0 0
+read-none s b m k v e f g h =
+    subst (λ (x : Book). Read s x m k v 0 0) (sym e)
+    (subst (λ (x : List ℕ). Read s freshBook x k v 0 0) (sym f)
+    (subst (λ (x : List ℕ). Read s freshBook freshMarks x v 0 0) (sym g)
+    (subst (λ (x : List ℕ). Read s freshBook freshMarks freshMarks x 0 0) (sym h)
+    (record {
+      calls = [];
+      count = refl;
+      within = omega arith;
+      few = omega arith;
+      state = start;
+      reached = fresh-reached;
+      room = blank-preview;
+      more = λ cs b′ m′ k′ v′ x. x;
+    }))))
 
-module _ (s : List ℕ) {b : Book} {m k : List ℕ} (at n : ℕ) (R : Read s b m k at n) where
-  module _ (r : Stepped) (m′ k′ : List ℕ) (l : at < length s) (S : Steps b m k s at (n + 1) r m′ k′) where
+module _ (s : List ℕ) {b : Book} {m k v : List ℕ} (at n : ℕ) (R : Read s b m k v at n) where
+  module _ (r : Stepped) (m′ k′ v′ : List ℕ) (l : at < length s) (S : Steps b m k v s at (n + 1) r m′ k′ v′) where
     abbrev this : Call
-    this = record { record′ = drop at s; before = b; marks = m; second = k; gave = r .answered; left = m′; leftSecond = k′ }
+    this = record { record′ = drop at s; before = b; marks = m; second = k; preview = v; gave = r .answered; left = m′; leftSecond = k′; leftPreview = v′ }
 
     -- any calls of what is left after this one
-    step-more : (cs : List Call) (b″ : Book) (m″ k″ : List ℕ) → Calls (r .answered .book) m′ k′ (drop (r .next) s) cs b″ m″ k″ →
-        Calls freshBook freshMarks freshMarks s (R .calls ++ (this ∷ cs)) b″ m″ k″
-    step-more cs b″ m″ k″ x =
-        R .more (this ∷ cs) b″ m″ k″
-        (then (drop at s) (r .answered) m′ k′ (omega (arith, length-drop at s)) (S .call)
-        (subst (λ (z : List ℕ). Calls (r .answered .book) m′ k′ z cs b″ m″ k″) (ap (λ (i : ℕ). drop i s) (S .next) ∙ next-rest s at (r .answered .used)) x))
+    step-more : (cs : List Call) (b″ : Book) (m″ k″ v″ : List ℕ) → Calls (r .answered .book) m′ k′ v′ (drop (r .next) s) cs b″ m″ k″ v″ →
+        Calls freshBook freshMarks freshMarks freshMarks s (R .calls ++ (this ∷ cs)) b″ m″ k″ v″
+    step-more cs b″ m″ k″ v″ x =
+        R .more (this ∷ cs) b″ m″ k″ v″
+        (then (drop at s) (r .answered) m′ k′ v′ (omega (arith, length-drop at s)) (S .call)
+        (subst (λ (z : List ℕ). Calls (r .answered .book) m′ k′ v′ z cs b″ m″ k″ v″) (ap (λ (i : ℕ). drop i s) (S .next) ∙ next-rest s at (r .answered .used)) x))
 
     -- one step more
-    pub read-step : Read s (r .answered .book) m′ k′ (r .next) (n + 1)
+    pub read-step : Read s (r .answered .book) m′ k′ v′ (r .next) (n + 1)
     read-step =
         record {
           calls = R .calls ++ (this ∷ []);
@@ -59,18 +74,20 @@ module _ (s : List ℕ) {b : Book} {m k : List ℕ} (at n : ℕ) (R : Read s b m
           few = omega (arith, R .few, S .next, next-further s at (r .answered .used) l);
           state = _;
           reached = reached-after (R .reached) (S .call);
-          more = λ cs b″ m″ k″ x.
-              subst (λ (z : List Call). Calls freshBook freshMarks freshMarks s z b″ m″ k″) (sym (append-assoc (R .calls) (this ∷ []) cs)) (step-more cs b″ m″ k″ x);
+          room = left-long (R .state) (record { book = R .reached .form; preview = R .room }) (R .reached .shows) (S .call);
+          more = λ cs b″ m″ k″ v″ x.
+              subst (λ (z : List Call). Calls freshBook freshMarks freshMarks freshMarks s z b″ m″ k″ v″) (sym (append-assoc (R .calls) (this ∷ []) cs))
+              (step-more cs b″ m″ k″ v″ x);
         }
 
     -- its line is the one after those before
     pub step-follows : length s ≤ 65536 → Follows s n (r .line)
     step-follows h =
-        let K = calls-from (read-step .reached) (drop (r .next) s) in
+        let K = calls-from (read-step .reached) (read-step .room) (drop (r .next) s) in
         let cs = R .calls ++ (this ∷ K .calls) in
         record {
           lines = _;
-          listed = read cs (K .book) (K .marks) (K .second) h (step-more (K .calls) (K .book) (K .marks) (K .second) (K .made));
+          listed = read cs (K .book) (K .marks) (K .second) (K .preview) h (step-more (K .calls) (K .book) (K .marks) (K .second) (K .preview) (K .made));
           within = omega (arith, R .count, length-append (recordLines 1 cs) (endOf (length cs) (K .marks) ∷ []), lines-count 1 cs, length-append (R .calls) (this ∷ K .calls));
           holds =
               subst (Carries (r .line))
@@ -83,9 +100,9 @@ module _ (s : List ℕ) {b : Book} {m k : List ℕ} (at n : ℕ) (R : Read s b m
     -- at the end of the journal the lines are the listing
     listing : Listed s (recordLines 1 (R .calls) ++ (endOf (length (R .calls)) m ∷ []))
     listing =
-        read (R .calls) b m k h
-        (subst (λ (z : List Call). Calls freshBook freshMarks freshMarks s z b m k) (append-nil (R .calls))
-        (R .more [] b m k (subst (λ (z : List ℕ). Calls b m k z [] b m k) (sym (drop-of-length-le s {i = at} l)) ended)))
+        read (R .calls) b m k v h
+        (subst (λ (z : List Call). Calls freshBook freshMarks freshMarks freshMarks s z b m k v) (append-nil (R .calls))
+        (R .more [] b m k v (subst (λ (z : List ℕ). Calls b m k v z [] b m k v) (sym (drop-of-length-le s {i = at} l)) ended)))
 
     listing-count : length (recordLines 1 (R .calls) ++ (endOf (length (R .calls)) m ∷ [])) ≡ n + 1
     listing-count = omega (arith, length-append (recordLines 1 (R .calls)) (endOf (length (R .calls)) m ∷ []), lines-count 1 (R .calls), R .count)

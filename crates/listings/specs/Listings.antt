@@ -6,7 +6,7 @@ use mathlib.Core.List.{List, [], _∷_, _++_}
 use lib.ListN.{length, getD}
 use Rattle.book.specs.declared.Book.{Book}
 use Rattle.book.specs.declared.Answer.{Answer}
-use Rattle.book.specs.declared.Answer.the-variants.{Permitted, Open, NotPermitted, Changed, Refused}
+use Rattle.book.specs.declared.Answer.the-variants.{Permitted, Open, NotPermitted, Changed, Previewed, Refused}
 use Rattle.book.specs.Chains.{Call, freshBook, freshMarks}
 use Rattle.demands.specs.Demands.{Demand3}
 use Rattle.lines.specs.declared.Line.{Line}
@@ -20,6 +20,7 @@ Ends Permitted = ⊥
 Ends Open = ⊥
 Ends NotPermitted = ⊥
 Ends (Changed c) = ⊥
+Ends (Previewed c) = ⊥
 Ends (Refused k) = (1 ≤ k) × (k ≤ 5)
 
 -- DEMANDED of the calls of a journal: those that use no byte, and so end it, are those with the refusals 1 to 5.
@@ -33,10 +34,10 @@ recordLines n [] = []
 recordLines n (c ∷ cs) = lineOf n (c .record′) (c .gave .answer) ∷ recordLines (n + 1) cs
 
 -- THE LISTING of a journal: "Refusal 8 is the one line `refused 8`", "a journal over 65,536 bytes"; else the lines of its
--- records, from a fresh book, and the last line, which counts the marks of the first buffer.
+-- records, from a fresh book, with a preview buffer that starts at 0, and the last line, which counts the marks of the first buffer.
 pub data Listed (s : List ℕ) : List (List ℕ) → Type 0 where
   over : 65536 < length s → Listed s (refusedLine 8 ∷ [])
-  read : (cs : List Call) (b : Book) (m k : List ℕ) → length s ≤ 65536 → Calls freshBook freshMarks freshMarks s cs b m k →
+  read : (cs : List Call) (b : Book) (m k v : List ℕ) → length s ≤ 65536 → Calls freshBook freshMarks freshMarks freshMarks s cs b m k v →
       Listed s (recordLines 1 cs ++ (endOf (length cs) m ∷ []))
 
 -- DEMANDED of the listing of a journal s that is not too long: it is the lines of its calls and the last line, and of these calls
@@ -46,7 +47,8 @@ pub record Told (s : List ℕ) (ls : List (List ℕ)) : Type 1 where
   pub book : Book
   pub marks : List ℕ
   pub second : List ℕ
-  pub made : Calls freshBook freshMarks freshMarks s calls book marks second
+  pub preview : List ℕ
+  pub made : Calls freshBook freshMarks freshMarks freshMarks s calls book marks second preview
   pub lines : ls ≡ recordLines 1 calls ++ (endOf (length calls) marks ∷ [])
   pub demand : Demand3 calls book marks second
   pub ends : AllEnd calls

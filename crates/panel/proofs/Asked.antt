@@ -7,7 +7,7 @@ use mathlib.Core.Logic.{_↔_, inl}
 use native.Mathlib.Omega.{arith}
 use borrow.Author.Tests.{le-leb}
 use lib.ListN.{length}
-use Rattle.sorts.specs.Numbers.{numberOf, speakers, principals, packs, grants}
+use Rattle.sorts.specs.Numbers.{numberOf, speakers, principals, packs, grants, allMarks}
 use Rattle.rows.specs.Numbering.{numberConcl}
 use Rattle.rows.specs.Form.{depth}
 use Rattle.rows.specs.Allowed.{AllowedConcl}
@@ -22,10 +22,11 @@ use Rattle.book.specs.declared.Book.{Book}
 use Rattle.book.specs.declared.Answer.the-variants.{Permitted}
 use Rattle.book.specs.declared.Answered.{Answered}
 use Rattle.machine.specs.Machine.{State, Step, asks, act, acted, step}
-use Rattle.book.specs.Books.{BookForm, Shows}
+use Rattle.book.specs.Books.{BookForm, Lent, Shows}
 use Rattle.book.specs.Calls.{answerAt, answerOf, Called}
+use Rattle.book.specs.Chains.{freshMarks}
 use Rattle.demands.proofs.ClosedBook.{shown}
-use Rattle.demands.proofs.Existence.{call-some}
+use Rattle.demands.proofs.Existence.{call-some, blank-preview}
 use Rattle.demands.proofs.Shown.{shows-some}
 use Rattle.demands.proofs.Unique.{no-choice}
 use Rattle.panel.specs.declared.PackRight.{PackRight}
@@ -69,24 +70,27 @@ module _ (p : ℕ) (x : PackRight) (n : ℕ) where
 
     module _ (b : Book) (m k : List ℕ) (f : BookForm b m k) where
       -- every call of the query answers from the marks
-      pub answered : (a : Answered) (m′ k′ : List ℕ) → Called b m k (queryFor p x n) a m′ k′ → a .answer ≡ answerAt m k (numberOf (conclusionOf p x n))
+      pub answered : (v : List ℕ) → length v ≡ allMarks → (a : Answered) (m′ k′ v′ : List ℕ) → Called b m k v (queryFor p x n) a m′ k′ v′ → a .answer ≡ answerAt m k (numberOf (conclusionOf p x n))
       unfolding answerOf
-      answered a m′ k′ C =
+      answered v e a m′ k′ v′ C =
           let s = shows-some b m k f in
-          C .formed f (s .0) (s .1) .answer ∙
-          ap (λ (t : Step). answerOf (t .says) m k m′) (step-asks (s .0) (room b m k (s .0) f (s .1)))
+          C .formed (record { book = f; preview = e }) (s .0) (s .1) .answer ∙
+          ap (λ (t : Step). answerOf (t .says) m k m′ v′) (step-asks (s .0) (room b m k (s .0) f (s .1)))
 
       -- so it is permitted exactly where that answer is
       pub permitted-at : IsPermitted b m k p x n ↔ (answerAt m k (numberOf (conclusionOf p x n)) ≡ Permitted)
       permitted-at = (
-        λ h. let C = call-some b m k (queryFor p x n) f in sym (answered _ _ _ C) ∙ h _ _ _ C,
-        λ e a m′ k′ C. answered a m′ k′ C ∙ e,
+        λ h.
+            let C = call-some b m k freshMarks (queryFor p x n) (record { book = f; preview = blank-preview }) in
+            sym (answered freshMarks blank-preview _ _ _ _ C) ∙ h freshMarks blank-preview _ _ _ _ C,
+        λ e v l a m′ k′ v′ C. answered v l a m′ k′ v′ C ∙ e,
       )
 
-  -- On a book in form the query has an answer,
-  pub asked-some : (b : Book) (m k : List ℕ) → BookForm b m k → (a : Answered) × (m′ : List ℕ) × (k′ : List ℕ) × Called b m k (queryFor p x n) a m′ k′
-  asked-some b m k f = (_, _, _, call-some b m k (queryFor p x n) f)
+  -- On a book in form, with a preview buffer as long as the marks, the query has an answer,
+  pub asked-some : (b : Book) (m k v : List ℕ) → Lent b m k v → (a : Answered) × (m′ : List ℕ) × (k′ : List ℕ) × (v′ : List ℕ) × Called b m k v (queryFor p x n) a m′ k′ v′
+  asked-some b m k v f = (_, _, _, _, call-some b m k v (queryFor p x n) f)
 
-  -- and, whatever the book, one only.
-  pub asked-only : (b : Book) (m k : List ℕ) (a a′ : Answered) (m₁ m₂ k₁ k₂ : List ℕ) → Called b m k (queryFor p x n) a m₁ k₁ → Called b m k (queryFor p x n) a′ m₂ k₂ → a .answer ≡ a′ .answer
-  asked-only b m k a a′ m₁ m₂ k₁ k₂ C D = ap (λ (r : Answered). r .answer) (no-choice b m k (queryFor p x n) a a′ m₁ m₂ k₁ k₂ C D .0)
+  -- and, whatever is lent, one only.
+  pub asked-only : (b : Book) (m k v : List ℕ) (a a′ : Answered) (m₁ m₂ k₁ k₂ v₁ v₂ : List ℕ) → Called b m k v (queryFor p x n) a m₁ k₁ v₁ → Called b m k v (queryFor p x n) a′ m₂ k₂ v₂ →
+      a .answer ≡ a′ .answer
+  asked-only b m k v a a′ m₁ m₂ k₁ k₂ v₁ v₂ C D = ap (λ (r : Answered). r .answer) (no-choice b m k v (queryFor p x n) a a′ m₁ m₂ k₁ k₂ v₁ v₂ C D .0)

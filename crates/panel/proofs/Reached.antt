@@ -1,13 +1,13 @@
 -- The panel of a book that was reached from a fresh one by calls: its bits beside the closed sets.
 use Prim.Native.Nat.{ℕ, _<_}
-use mathlib.Core.Path.{_≡_, ap, subst}
+use mathlib.Core.Path.{_≡_, ap, subst, _∙_}
 use mathlib.Core.List.{List}
 use mathlib.Core.Logic.{_↔_}
 use native.Mathlib.Omega.{arith}
 use native.Mathlib.Decide.{ℕ-discrete}
-use lib.ListN.{getD}
+use lib.ListN.{length, getD}
 use Rattle.sorts.specs.Numbers.{numberOf, speakers, packs}
-use Rattle.machine.specs.Machine.{State, Step, start, step}
+use Rattle.machine.specs.Machine.{State, Step, start, feed}
 use Rattle.machine.specs.Closed as closed
 use Rattle.book.specs.declared.Book.{Book}
 use Rattle.book.specs.declared.Answer.the-variants.{Permitted}
@@ -16,7 +16,8 @@ use Rattle.book.specs.Chains.{freshBook, freshMarks, Call, Chain, records, runs
 use Rattle.demands.specs.Demands.{Demand2}
 use Rattle.demands.proofs.Demand2.{demand-2, answer-yes, answer-maybe, answer-no}
 use Rattle.demands.proofs.Demand3.{demand-3}
-use Rattle.demands.proofs.Existence.{call-some}
+use Rattle.demands.proofs.Existence.{call-some, blank-preview}
+use Rattle.demands.proofs.Reached.{fed-whole}
 use Rattle.panel.specs.declared.PackRight.{PackRight}
 use Rattle.panel.specs.declared.PackRight.the-variants.{Run, Export}
 use Rattle.panel.specs.declared.Panel.{Panel}
@@ -32,11 +33,11 @@ module _ (cs : List Call) (b : Book) (m k : List ℕ) (K : Chain freshBook fresh
   answer-demand : (x : PackRight) (n : ℕ) → n < packs → Demand2 M (numberOf (conclusionOf p x n)) (answerAt m k (numberOf (conclusionOf p x n)))
   answer-demand x n r =
       let D = demand-3 cs b m k K in
-      let C = call-some b m k (queryFor p x n) (D .form) in
-      let e = step-asks p x n l r M (room b m k M (D .form) (D .shows)) in
+      let C = call-some b m k freshMarks (queryFor p x n) (record { book = D .form; preview = blank-preview }) in
+      let e = fed-whole M (length freshMarks) (queryFor p x n) blank-preview ∙ step-asks p x n l r M (room b m k M (D .form) (D .shows)) in
       subst (λ (N : State). Demand2 N (numberOf (conclusionOf p x n)) (answerAt m k (numberOf (conclusionOf p x n)))) (ap (λ (t : Step). t .next) e)
-      (subst (Demand2 (step M (queryFor p x n) .next) (numberOf (conclusionOf p x n))) (answered p x n l r b m k (D .form) _ _ _ C)
-      (demand-2 cs b m k K (queryFor p x n) _ _ _ C (numberOf (conclusionOf p x n)) (ap (λ (t : Step). t .says) e)))
+      (subst (Demand2 (feed M (length freshMarks) (queryFor p x n) .next) (numberOf (conclusionOf p x n))) (answered p x n l r b m k (D .form) freshMarks blank-preview _ _ _ _ C)
+      (demand-2 cs b m k K (queryFor p x n) freshMarks _ _ _ _ C (numberOf (conclusionOf p x n)) (ap (λ (t : Step). t .says) e)))
 
   packs-told : (x : PackRight) (w : ℕ) → Packs b m k p x w → Told M p x w
   packs-told x w P =

@@ -11,7 +11,7 @@ use Rattle.sorts.specs.Decides.{Decides}
 use Rattle.sorts.specs.Numbers.{numberOf, speakers}
 use Rattle.book.specs.declared.Book.{Book}
 use Rattle.book.specs.declared.Answer.{Answer}
-use Rattle.book.specs.declared.Answer.the-variants.{Permitted, Open, NotPermitted, Changed, Refused}
+use Rattle.book.specs.declared.Answer.the-variants.{Permitted, Open, NotPermitted, Changed, Previewed, Refused}
 use Rattle.book.specs.Books.{BookForm}
 use Rattle.book.specs.Calls.{answerAt}
 use Rattle.panel.specs.declared.PackRight.{PackRight}
@@ -29,6 +29,7 @@ one-permitted Permitted e = refl
 one-permitted Open e = absurd (omega arith)
 one-permitted NotPermitted e = absurd (omega arith)
 one-permitted (Changed c) e = absurd (omega arith)
+one-permitted (Previewed c) e = absurd (omega arith)
 one-permitted (Refused k) e = absurd (omega arith)
 
 module _ (b : Book) (m k : List ℕ) (p : ℕ) where

@@ -7,7 +7,7 @@ use native.Mathlib.Omega.{arith}
 use lib.Pow.{pow-mono}
 use Rattle.sorts.specs.Numbers.{numberOf, packs}
 use Rattle.book.specs.declared.Answer.{Answer}
-use Rattle.book.specs.declared.Answer.the-variants.{Permitted, Open, NotPermitted, Changed, Refused}
+use Rattle.book.specs.declared.Answer.the-variants.{Permitted, Open, NotPermitted, Changed, Previewed, Refused}
 use Rattle.book.specs.Calls.{answerAt}
 use Rattle.panel.specs.declared.PackRight.{PackRight}
 use Rattle.panel.specs.Panels.{conclusionOf, bit}
@@ -40,6 +40,7 @@ one-small Permitted = omega arith
 one-small Open = omega arith
 one-small NotPermitted = omega arith
 one-small (Changed c) = omega arith
+one-small (Previewed c) = omega arith
 one-small (Refused k) = omega arith
 
 module _ (m k : List ℕ) (p : ℕ) (x : PackRight) where

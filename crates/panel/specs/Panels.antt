@@ -3,8 +3,9 @@ use Prim.Native.Nat.{ℕ, _/_, _%_, _^_, _≤_, _<_}
 use mathlib.Core.Path.{_≡_}
 use mathlib.Core.Logic.{_⊎_, _↔_}
 use mathlib.Core.List.{List, []}
+use lib.ListN.{length}
 use Rattle.sorts.specs.declared.Concl.{Concl}
-use Rattle.sorts.specs.Numbers.{numberOf, speakers, packs}
+use Rattle.sorts.specs.Numbers.{numberOf, speakers, packs, allMarks}
 use Rattle.rows.specs.Written as written
 use Rattle.rows.specs.Written.{perm, run, export}
 use Rattle.rows.specs.Form.{conclOf}
@@ -37,10 +38,10 @@ conclusionOf p x n = conclOf [] (asked p x n)
 abbrev pub queryFor : ℕ → PackRight → ℕ → List ℕ
 queryFor p x n = writtenRecord (query (asked p x n))
 
--- "is permitted": whatever answer the promise of a call allows to that query, on that book, is permitted. (It allows one answer,
--- and one only: theorems `asked-some` and `asked-only`.)
+-- "is permitted": whatever answer the promise of a call allows to that query, on that book and with any preview buffer as long as the
+-- marks, is permitted. (It allows one answer, and one only: theorems `asked-some` and `asked-only`.)
 abbrev pub IsPermitted : Book → List ℕ → List ℕ → ℕ → PackRight → ℕ → Type 0
-IsPermitted b m k p x n = (a : Answered) (m′ k′ : List ℕ) → Called b m k (queryFor p x n) a m′ k′ → a .answer ≡ Permitted
+IsPermitted b m k p x n = (v : List ℕ) → length v ≡ allMarks → (a : Answered) (m′ k′ v′ : List ℕ) → Called b m k v (queryFor p x n) a m′ k′ v′ → a .answer ≡ Permitted
 
 -- Bit n of a word, counted from the lowest.
 unfoldable pub bit : ℕ → ℕ → ℕ

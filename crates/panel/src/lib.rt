@@ -56,6 +56,7 @@ fn one(c: Concl, marks: &[u8], second: &[u8]) -> u32
         Answer::Open => 0,
         Answer::NotPermitted => 0,
         Answer::Changed(_) => 0,
+        Answer::Previewed(_) => 0,
         Answer::Refused(_) => 0,
     }
 }

@@ -11,8 +11,8 @@ ghost use Rattle.panel.specs.Panels.{numberSaid};
 ghost use Rattle.panel_boundary.specs.Crossing.{bytesOf, JournalPanel, Crossed};
 
 // The panel of principal p over the book that a journal leaves.
-fn panel_after(s: &[u8], p: u8, marks: &mut [u8], second: &mut [u8]) -> Panel
-    requires { ⌜ (now marks ≡ freshMarks) × (now second ≡ freshMarks) ⌝ }
+fn panel_after(s: &[u8], p: u8, marks: &mut [u8], second: &mut [u8], preview: &mut [u8]) -> Panel
+    requires { ⌜ (now marks ≡ freshMarks) × (now second ≡ freshMarks) × (now preview ≡ freshMarks) ⌝ }
     ensures { λ r. ⌜ JournalPanel (now (s .entry)) p r ⌝ }
 {
     if places::over(s.len()) {
@@ -22,7 +22,7 @@ fn panel_after(s: &[u8], p: u8, marks: &mut [u8], second: &mut [u8]) -> Panel
             export: 0,
         };
     }
-    let b = journal::book_after(s, marks, second);
+    let b = journal::book_after(s, marks, second, preview);
     panel::show(b, marks, second, p)
 }
 
@@ -68,7 +68,8 @@ pub extern "C" fn panel_of_journal(s: &[u8], p: u8, out: &mut [u8; 8]) -> u8
 {
     let mut marks = [0u8; Number::MARKS];
     let mut second = [0u8; Number::MARKS];
-    let r = panel_after(s, p, &mut marks, &mut second);
+    let mut preview = [0u8; Number::MARKS];
+    let r = panel_after(s, p, &mut marks, &mut second, &mut preview);
     *out = words(r.run, r.export);
     let said = r.said;
     number(said)

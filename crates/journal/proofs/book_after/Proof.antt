@@ -15,10 +15,10 @@ use Rattle.book.proofs.call.Reads as call-reads
 use Rattle.places.proofs.next_place.Reads as next-place-reads
 
 abbrev Inv-loop : tie.InvT-loop
-Inv-loop s marks₀ second₀ b₀ at₀ marks second b at = ReadTo s b marks second at × (length marks ≡ length marks₀) × (length second ≡ length second₀)
+Inv-loop s marks₀ second₀ preview₀ b₀ at₀ marks second preview b at = ReadTo s b marks second preview at × (length marks ≡ length marks₀) × (length second ≡ length second₀) × (length preview ≡ length preview₀)
 
 abbrev μ-loop : tie.MeasureT-loop
-μ-loop s marks₀ second₀ b₀ at₀ marks second b at = length s - at
+μ-loop s marks₀ second₀ preview₀ b₀ at₀ marks second preview b at = length s - at
 
 -- src/lib.rt:67:9
 new-requires : tie.Need-new-requires Inv-loop μ-loop
@@ -26,19 +26,19 @@ new-requires c κs = search needs
 
 -- src/lib.rt:69:5
 loop-holds : tie.Need-loop-holds Inv-loop μ-loop
-loop-holds c = (to-none ((c .before .before .before .before .args) .s .now) _ _ _ ((c .new) .ensures) ((c .before .before .before .before .pre) .0) ((c .before .before .before .before .pre) .1), search needs, search needs)
+loop-holds c = (to-none ((c .before .before .before .before .before .args) .s .now) _ _ _ _ ((c .new) .ensures) ((c .before .before .before .before .before .pre) .0) ((c .before .before .before .before .before .pre) .1) ((c .before .before .before .before .before .pre) .2), search needs, search needs, search needs)
 
 -- src/lib.rt:70:38
 sub-call : tie.Need-sub-call Inv-loop μ-loop
-sub-call c = omega (arith, (c .before .before .before .loop) .inv .0 .within)
+sub-call c = omega (arith, (c .before .before .before .before .loop) .inv .0 .within)
 
 -- src/lib.rt:70:38
 part-call-start : tie.Need-part-call-start Inv-loop μ-loop
-part-call-start c = omega (arith, (c .before .before .before .loop) .inv .0 .within)
+part-call-start c = omega (arith, (c .before .before .before .before .loop) .inv .0 .within)
 
 -- src/lib.rt:70:38
 part-call-end : tie.Need-part-call-end Inv-loop μ-loop
-part-call-end c = omega (arith, (c .before .before .before .loop) .inv .0 .within)
+part-call-end c = omega (arith, (c .before .before .before .before .loop) .inv .0 .within)
 
 -- src/lib.rt:70:13
 call-requires : tie.Need-call-requires Inv-loop μ-loop
@@ -46,15 +46,15 @@ call-requires c κs = search needs
 
 -- src/lib.rt:71:9
 next-place-requires : tie.Need-next-place-requires Inv-loop μ-loop
-next-place-requires c κs = omega (arith, (c .before .before .before .before .before .before .before .before .before .loop) .inv .0 .within)
+next-place-requires c κs = omega (arith, (c .before .before .before .before .before .before .before .before .before .before .before .before .loop) .inv .0 .within)
 
 -- src/lib.rt:69:5
 loop-less : tie.Need-loop-less Inv-loop μ-loop
-loop-less c = omega (arith, (c .before .next-place) .ensures, next-further ((c .before .before .before .before .before .before .before .before .before .before .before .before .before .before .before .before .args) .s .now) ((c .before .before .before .before .before .before .before .before .before .before .before .loop) .at) ((c .before .before .before .before .before .before .call) .result .used) ((c .before .before .before .before .before .before .before .before .before .before .loop-test) .taken))
+loop-less c = omega (arith, (c .before .next-place) .ensures, next-further ((c .before .before .before .before .before .before .before .before .before .before .before .before .before .before .before .before .before .before .before .before .args) .s .now) ((c .before .before .before .before .before .before .before .before .before .before .before .before .before .before .loop) .at) ((c .before .before .before .before .before .before .before .before .call) .result .used) ((c .before .before .before .before .before .before .before .before .before .before .before .before .before .loop-test) .taken))
 
 -- src/lib.rt:69:5
 loop-again : tie.Need-loop-again Inv-loop μ-loop
-loop-again c = (to-next ((c .before .before .before .before .before .before .before .before .before .before .before .before .before .before .before .before .args) .s .now) ((c .before .before .before .before .before .before .before .before .before .before .before .loop) .at) ((c .before .before .before .before .before .before .before .before .before .before .before .loop) .inv .0) ((c .before .before .before .before .before .before .call) .result) _ _ ((c .before .next-place) .result) ((c .before .before .before .before .before .before .before .before .before .before .loop-test) .taken) (call-rest ((c .before .before .before .before .before .before .before .before .before .before .before .before .before .before .before .before .args) .s .now) ((c .before .before .before .before .before .before .before .before .before .before .before .loop) .at) ((c .before .before .before .before .before .before .call) .ensures)) ((c .before .next-place) .ensures), search needs, search needs)
+loop-again c = (to-next ((c .before .before .before .before .before .before .before .before .before .before .before .before .before .before .before .before .before .before .before .before .args) .s .now) ((c .before .before .before .before .before .before .before .before .before .before .before .before .before .before .loop) .at) ((c .before .before .before .before .before .before .before .before .before .before .before .before .before .before .loop) .inv .0) ((c .before .before .before .before .before .before .before .before .call) .result) _ _ _ ((c .before .next-place) .result) ((c .before .before .before .before .before .before .before .before .before .before .before .before .before .loop-test) .taken) (call-rest ((c .before .before .before .before .before .before .before .before .before .before .before .before .before .before .before .before .before .before .before .before .args) .s .now) ((c .before .before .before .before .before .before .before .before .before .before .before .before .before .before .loop) .at) ((c .before .before .before .before .before .before .before .before .call) .ensures)) ((c .before .next-place) .ensures), search needs, search needs, search needs)
 
 -- src/lib.rt:63:1
 same-length : tie.Need-same-length Inv-loop μ-loop
@@ -64,9 +64,13 @@ same-length c = search needs
 same-length-2 : tie.Need-same-length-2 Inv-loop μ-loop
 same-length-2 c = search needs
 
+-- src/lib.rt:43:1
+same-length-3 : tie.Need-same-length-3 Inv-loop μ-loop
+same-length-3 c = search needs
+
 -- src/lib.rt:63:1
 returns : tie.Need-returns Inv-loop μ-loop
-returns c = to-end ((c .before .before .before .before .before .before .args) .s .now) ((c .before .loop) .at) ((c .before .loop) .inv .0) ((c .loop-test) .left)
+returns c = to-end ((c .before .before .before .before .before .before .before .args) .s .now) ((c .before .loop) .at) ((c .before .loop) .inv .0) ((c .loop-test) .left)
 
 pub book-after-spec : {M : Type 1} → statement M
 book-after-spec =
@@ -85,4 +89,5 @@ book-after-spec =
     loop-again
     same-length
     same-length-2
+    same-length-3
     returns)

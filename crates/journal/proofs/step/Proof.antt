@@ -39,7 +39,7 @@ part-record-line-end c = search needs
 
 -- src/lib.rt:53:9
 record-line-requires : tie.Need-record-line-requires
-record-line-requires c κs = called-opened _ _ _ _ _ _ _ ((c .before .before .before .before .before .call) .ensures)
+record-line-requires c κs = called-opened _ _ _ _ _ _ _ _ _ ((c .before .before .before .before .before .before .before .call) .ensures)
 
 -- src/lib.rt:54:9
 next-place-requires : tie.Need-next-place-requires
@@ -53,9 +53,13 @@ same-length c = search needs
 same-length-2 : tie.Need-same-length-2
 same-length-2 c = search needs
 
+-- src/lib.rt:25:1
+same-length-3 : tie.Need-same-length-3
+same-length-3 c = search needs
+
 -- src/lib.rt:47:1
 returns : tie.Need-returns
-returns c = record { call = call-rest ((c .before .before .before .before .before .before .before .before .before .before .before .before .before .before .args) .s .now) ((c .before .before .before .before .before .before .before .before .before .before .before .before .before .before .args) .at) ((c .before .before .before .before .before .before .before .call) .ensures); line = line-rest ((c .before .before .before .before .before .before .before .before .before .before .before .before .before .before .args) .n) ((c .before .before .before .before .before .before .before .before .before .before .before .before .before .before .args) .s .now) ((c .before .before .before .before .before .before .before .before .before .before .before .before .before .before .args) .at) ((c .before .before .before .before .before .before .before .call) .result .answer) ((c .before .record-line) .ensures); next = (c .next-place) .ensures }
+returns c = record { call = call-rest ((c .before .before .before .before .before .before .before .before .before .before .before .before .before .before .before .before .before .before .args) .s .now) ((c .before .before .before .before .before .before .before .before .before .before .before .before .before .before .before .before .before .before .args) .at) ((c .before .before .before .before .before .before .before .before .before .call) .ensures); line = line-rest ((c .before .before .before .before .before .before .before .before .before .before .before .before .before .before .before .before .before .before .args) .n) ((c .before .before .before .before .before .before .before .before .before .before .before .before .before .before .before .before .before .before .args) .s .now) ((c .before .before .before .before .before .before .before .before .before .before .before .before .before .before .before .before .before .before .args) .at) ((c .before .before .before .before .before .before .before .before .before .call) .result .answer) ((c .before .record-line) .ensures); next = (c .next-place) .ensures }
 
 pub step-spec : {M : Type 1} → statement M
 step-spec =
@@ -72,4 +76,5 @@ step-spec =
     next-place-requires
     same-length
     same-length-2
+    same-length-3
     returns)

@@ -22,16 +22,16 @@ refused-line-requires : tie.Need-refused-line-requires
 refused-line-requires c κs = search needs
 
 write-requires : tie.Need-write-requires
-write-requires c κs = (search needs, over-follows _ 0 _ (omega (arith, ltb-true 65536 ((c .before .before .before .before .before .before .before .args) .i .n) (sym ((c .before .before .before .over) .ensures) ∙ (c .before .before .if1) .taken), (c .before .before .before .before .before .before .before .pre) .2 .1)) refl ((c .refused-line) .ensures))
+write-requires c κs = (search needs, over-follows _ 0 _ (omega (arith, ltb-true 65536 ((c .before .before .before .before .before .before .before .before .args) .i .n) (sym ((c .before .before .before .over) .ensures) ∙ (c .before .before .if1) .taken), (c .before .before .before .before .before .before .before .before .pre) .2 .1)) refl ((c .refused-line) .ensures))
 
 returns : tie.Need-returns
-returns c = over-ran _ _ (omega (arith, ltb-true 65536 ((c .before .before .before .before .before .before .before .before .args) .i .n) (sym ((c .before .before .before .before .over) .ensures) ∙ (c .before .before .before .if1) .taken), (c .before .before .before .before .before .before .before .before .pre) .2 .1)) ((c .write) .ensures .0)
+returns c = over-ran _ _ (omega (arith, ltb-true 65536 ((c .before .before .before .before .before .before .before .before .before .args) .i .n) (sym ((c .before .before .before .before .over) .ensures) ∙ (c .before .before .before .if1) .taken), (c .before .before .before .before .before .before .before .before .before .pre) .2 .1)) ((c .write) .ensures .0)
 
 slice-aggregate-list-records : tie.Need-slice-aggregate-list-records
 slice-aggregate-list-records c = search needs
 
 list-records-requires : tie.Need-list-records-requires
-list-records-requires c κs = (omega (arith, ltb-false 65536 ((c .before .before .before .before .before .before .before .before .args) .i .n) (sym ((c .before .before .before .before .over) .ensures) ∙ (c .before .before .before .if1) .left), (c .before .before .before .before .before .before .before .before .pre) .2 .1), (c .before .before .before .before .before .before .before .before .pre) .3, (c .before .before .before .before .before .before .before .before .pre) .4)
+list-records-requires c κs = (omega (arith, ltb-false 65536 ((c .before .before .before .before .before .before .before .before .before .before .args) .i .n) (sym ((c .before .before .before .before .before .over) .ensures) ∙ (c .before .before .before .before .if1) .left), (c .before .before .before .before .before .before .before .before .before .before .pre) .2 .1), (c .before .before .before .before .before .before .before .before .before .before .pre) .3, (c .before .before .before .before .before .before .before .before .before .before .pre) .4, (c .before .before .before .before .before .before .before .before .before .before .pre) .5)
 
 same-length : tie.Need-same-length
 same-length c = search needs
@@ -40,8 +40,12 @@ same-length c = search needs
 same-length-2 : tie.Need-same-length-2
 same-length-2 c = search needs
 
+-- src/main.rt:208:1
+same-length-3 : tie.Need-same-length-3
+same-length-3 c = search needs
+
 returns-2 : tie.Need-returns-2
-returns-2 c = (c .before .before .before .before .list-records) .ensures
+returns-2 c = (c .before .before .before .before .before .before .list-records) .ensures
 
 pub list-spec : {M : Type 1} → statement M
 list-spec =
@@ -56,4 +60,5 @@ list-spec =
     list-records-requires
     same-length
     same-length-2
+    same-length-3
     returns-2)

@@ -33,9 +33,12 @@ slice-aggregate-list-2 c = search needs
 slice-aggregate-list-3 : tie.Need-slice-aggregate-list-3
 slice-aggregate-list-3 c = search needs
 
+slice-aggregate-list-4 : tie.Need-slice-aggregate-list-4
+slice-aggregate-list-4 c = search needs
+
 list-requires : tie.Need-list-requires
 unfolding freshMarks
-list-requires c κs = (search needs, (c .before .before .before .if1) .left, search needs, refl, refl)
+list-requires c κs = (search needs, (c .before .before .before .before .if1) .left, search needs, refl, refl, refl)
 
 slice-aggregate-write-all-2 : tie.Need-slice-aggregate-write-all-2
 slice-aggregate-write-all-2 c = search needs
@@ -61,6 +64,7 @@ main-spec =
     slice-aggregate-list
     slice-aggregate-list-2
     slice-aggregate-list-3
+    slice-aggregate-list-4
     list-requires
     slice-aggregate-write-all-2
     write-all-requires-2

@@ -31,6 +31,9 @@ enum-told-4 c = search needs
 enum-told-5 : tie.Need-enum-told-5
 enum-told-5 c = search needs
 
+enum-told-6 : tie.Need-enum-told-6
+enum-told-6 c = search needs
+
 -- src/lib.rt:49:1
 returns : tie.Need-returns
 returns c = ap oneFor (sym (c .enum-told .given .1) ∙ c .before .before .answer-for .ensures)
@@ -51,6 +54,9 @@ returns-4 c = ap oneFor (sym (c .enum-told4 .given .1) ∙ c .before .before .an
 returns-5 : tie.Need-returns-5
 returns-5 c = ap oneFor (sym (c .enum-told5 .given .1) ∙ c .before .before .answer-for .ensures)
 
+returns-6 : tie.Need-returns-6
+returns-6 c = ap oneFor (sym (c .enum-told6 .given .1) ∙ c .before .before .answer-for .ensures)
+
 pub one-spec : {M : Type 1} → statement M
 one-spec =
     tie.close
@@ -61,8 +67,10 @@ one-spec =
     enum-told-3
     enum-told-4
     enum-told-5
+    enum-told-6
     returns
     returns-2
     returns-3
     returns-4
-    returns-5)
+    returns-5
+    returns-6)

@@ -6,7 +6,7 @@ use mathlib.Core.List.{List}
 use lib.Dec.{leb}
 use Rattle.sorts.specs.Numbers.{numberOf, speakers, packs}
 use Rattle.book.specs.declared.Answer.{Answer}
-use Rattle.book.specs.declared.Answer.the-variants.{Permitted, Open, NotPermitted, Changed, Refused}
+use Rattle.book.specs.declared.Answer.the-variants.{Permitted, Open, NotPermitted, Changed, Previewed, Refused}
 use Rattle.book.specs.Calls.{answerAt}
 use Rattle.panel.specs.declared.PackRight.{PackRight}
 use Rattle.panel.specs.declared.Said as said
@@ -18,6 +18,7 @@ oneFor Permitted = 1
 oneFor Open = 0
 oneFor NotPermitted = 0
 oneFor (Changed c) = 0
+oneFor (Previewed c) = 0
 oneFor (Refused k) = 0
 
 -- the bit of pack n, from the marks

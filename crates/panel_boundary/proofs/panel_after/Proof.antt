@@ -10,19 +10,19 @@ use Rattle.journal.proofs.book_after.Reads as book-after-reads
 use Rattle.panel.proofs.show.Reads as show-reads
 use Rattle.places.proofs.over.Reads as over-reads
 
--- src/lib.rt:18:8
+-- src/lib.rt:24:8
 over-requires : tie.Need-over-requires
 over-requires c κs = search needs
 
--- src/lib.rt:19:9
+-- src/lib.rt:25:9
 returns : tie.Need-returns
 returns c = over (ltb-true 65536 _ (sym (c .before .over .ensures) ∙ c .if1 .taken))
 
--- src/lib.rt:25:9
+-- src/lib.rt:31:9
 book-after-requires : tie.Need-book-after-requires
 book-after-requires c κs = search needs
 
--- src/lib.rt:26:5
+-- src/lib.rt:32:5
 show-requires : tie.Need-show-requires
 show-requires c κs = search needs
 
@@ -35,8 +35,12 @@ same-length-2 : tie.Need-same-length-2
 same-length-2 c = search needs
 
 -- src/lib.rt:14:1
+same-length-3 : tie.Need-same-length-3
+same-length-3 c = search needs
+
+-- src/lib.rt:14:1
 returns-2 : tie.Need-returns-2
-returns-2 c = read (c .before .before .before .before .before .before .before .book-after .result) _ _ (c .show .result) (ltb-false 65536 _ (sym (c .before .before .before .before .before .before .before .before .before .before .before .over .ensures) ∙ c .before .before .before .before .before .before .before .before .before .before .if1 .left)) (c .before .before .before .before .before .before .before .book-after .ensures) (c .show .ensures)
+returns-2 c = read (c .before .before .before .before .before .before .before .before .before .book-after .result) _ _ (c .show .result) (ltb-false 65536 _ (sym (c .before .before .before .before .before .before .before .before .before .before .before .before .before .before .over .ensures) ∙ c .before .before .before .before .before .before .before .before .before .before .before .before .before .if1 .left)) (c .before .before .before .before .before .before .before .before .before .book-after .ensures) (c .show .ensures)
 
 pub panel-after-spec : {M : Type 1} → statement M
 panel-after-spec =
@@ -48,4 +52,5 @@ panel-after-spec =
     show-requires
     same-length
     same-length-2
+    same-length-3
     returns-2)

@@ -9,28 +9,32 @@ use Rattle.panel_boundary.proofs.number.Reads as number-reads
 use Rattle.panel_boundary.proofs.panel_after.Reads as panel-after-reads
 use Rattle.panel_boundary.proofs.words.Reads as words-reads
 
--- src/lib.rt:71:31
+-- src/lib.rt:78:31
 slice-aggregate-panel-after : tie.Need-slice-aggregate-panel-after
 slice-aggregate-panel-after c = search needs
 
--- src/lib.rt:71:43
+-- src/lib.rt:78:43
 slice-aggregate-panel-after-2 : tie.Need-slice-aggregate-panel-after-2
 slice-aggregate-panel-after-2 c = search needs
 
--- src/lib.rt:71:9
+-- src/lib.rt:78:56
+slice-aggregate-panel-after-3 : tie.Need-slice-aggregate-panel-after-3
+slice-aggregate-panel-after-3 c = search needs
+
+-- src/lib.rt:78:9
 panel-after-requires : tie.Need-panel-after-requires
 unfolding freshMarks
-panel-after-requires c κs = (refl, refl)
+panel-after-requires c κs = (refl, refl, refl)
 
--- src/lib.rt:72:12
+-- src/lib.rt:79:12
 words-requires : tie.Need-words-requires
 words-requires c κs = search needs
 
--- src/lib.rt:74:5
+-- src/lib.rt:81:5
 number-requires : tie.Need-number-requires
 number-requires c κs = search needs
 
--- src/lib.rt:65:1
+-- src/lib.rt:71:1
 returns : tie.Need-returns
 returns c = search needs
 
@@ -40,6 +44,7 @@ panel-of-journal-spec =
     (tie.spec
     slice-aggregate-panel-after
     slice-aggregate-panel-after-2
+    slice-aggregate-panel-after-3
     panel-after-requires
     words-requires
     number-requires

@@ -4,7 +4,7 @@ use Rattle.journal.specs.Lines.{said}
 use Rattle.pieces.specs.Words.{newline}
 use Rattle.book.specs.declared.Answer.{Answer}
 use Rattle.journal.specs.Lines.{Opened}
-use Rattle.journal.proofs.Joining.{permitted-joined, open-joined, not-permitted-joined, changed-joined, refusal-joined}
+use Rattle.journal.proofs.Joining.{permitted-joined, open-joined, not-permitted-joined, changed-joined, previewed-joined, refusal-joined}
 use borrow.Author.Needs.{needs}
 use Rattle.journal.proofs.answers.saying.Statement.{statement}
 use Rattle.journal.proofs.answers.saying.Tie as tie
@@ -48,6 +48,14 @@ kind-of-requires-4 c κs = subst (λ (x : Answer). Opened ((c .before .before .b
 enum-known-a-2 : tie.Need-enum-known-a-2
 enum-known-a-2 c = search needs
 
+-- src/answers.rt:38:51
+kind-of-requires-5 : tie.Need-kind-of-requires-5
+kind-of-requires-5 c κs = subst (λ (x : Answer). Opened ((c .before .before .before .before .args) .s .now) x) ((c .before .a2) .given .1) ((c .before .before .before .before .pre))
+
+-- src/answers.rt:39:25
+enum-known-a-3 : tie.Need-enum-known-a-3
+enum-known-a-3 c = search needs
+
 -- src/lines.rt:42:1
 returns : tie.Need-returns
 returns c = permitted-joined ((c .before .before .before .before .args) .s .now) ((c .kind-of) .result) ((c .kind-of) .ensures) ∙ ap (λ (x : Answer). said ((c .before .before .before .before .args) .s .now) x ++ newline) (sym ((c .before .enum-told) .given .1))
@@ -66,7 +74,11 @@ returns-4 c = changed-joined ((c .before .before .before .before .before .args) 
 
 -- src/lines.rt:42:1
 returns-5 : tie.Need-returns-5
-returns-5 c = refusal-joined ((c .before .before .before .before .args) .s .now) _ ∙ ap (λ (x : Answer). said ((c .before .before .before .before .args) .s .now) x ++ newline) (sym ((c .before .a2) .given .1))
+returns-5 c = previewed-joined ((c .before .before .before .before .before .args) .s .now) ((c .kind-of5) .result) _ ((c .kind-of5) .ensures) ∙ ap (λ (x : Answer). said ((c .before .before .before .before .before .args) .s .now) x ++ newline) (sym ((c .before .before .a2) .given .1))
+
+-- src/answers.rt:28:1
+returns-6 : tie.Need-returns-6
+returns-6 c = refusal-joined ((c .before .before .before .before .args) .s .now) _ ∙ ap (λ (x : Answer). said ((c .before .before .before .before .args) .s .now) x ++ newline) (sym ((c .before .a3) .given .1))
 
 pub saying-spec : {M : Type 1} → statement M
 saying-spec =
@@ -81,8 +93,11 @@ saying-spec =
     enum-known-a
     kind-of-requires-4
     enum-known-a-2
+    kind-of-requires-5
+    enum-known-a-3
     returns
     returns-2
     returns-3
     returns-4
-    returns-5)
+    returns-5
+    returns-6)
