@@ -16,11 +16,22 @@ fn output(program: &Path, args: &[&str], input: &Path) -> String {
     String::from_utf8_lossy(&out.stdout).into_owned()
 }
 
-/// The book, the records that are measured on it, and a query of every
-/// conclusion that a record can name, as far as a journal has room.
+/// How many withdrawals are previewed on a book.
+const PREVIEWS: usize = 12;
+
+/// The book, the records that are measured on it, previews of some withdrawals,
+/// and a query of every conclusion that a record can name, as far as a journal
+/// has room.
 fn questions(b: &Book) -> Vec<u8> {
     let mut j = b.journal_with(&b.again, 2);
     j.extend(b.refused());
+    let issued = b.entries.iter().filter(|record| record.starts_with(b"LI"));
+    for record in issued.take(PREVIEWS) {
+        if j.len() + record.len() <= JOURNAL_LIMIT {
+            j.extend(b"PV");
+            j.extend(&record[2..]);
+        }
+    }
     let mut ask = |c: &[u8]| {
         if j.len() + 2 + c.len() <= JOURNAL_LIMIT {
             j.extend(b"QU");

@@ -260,6 +260,12 @@ impl Book {
         [b"PL", [p as u8].as_slice(), name].concat()
     }
 
+    /// The shortest record that issues a licence.
+    pub fn licence(&self) -> Vec<u8> {
+        let issued = self.entries.iter().filter(|record| record.starts_with(b"LI"));
+        issued.min_by_key(|record| record.len()).expect("some licence stands").clone()
+    }
+
     /// A query that numbers the grant and lets nothing stand.
     pub fn name(&mut self, g: &Grant) {
         self.number(g);

@@ -4,7 +4,8 @@
 // gained and lost against the marks that stood, and prints, as the book does;
 // it does not test the form of a book, which nobody lends it. Where provisional
 // licences stand it evaluates a second time, with them taken as firm, and keeps
-// the words of that; where none stand, that would give the same marks.
+// the words of that; where none stand, that would give the same marks. For the
+// preview of a withdrawal it evaluates once, beside the marks that stand.
 
 use crate::book::{GRANTS, JOURNAL_LIMIT, MARKS, PRINS, X};
 use crate::hand::{write_and_count, write_marks, Atom, Row, Table, Words};
@@ -25,6 +26,9 @@ pub struct Book {
     waiting: [u64; PRINS],
     /// the words with the provisional licences taken as firm, where any stand
     all: Words,
+    /// the words and the marks of the last preview
+    ahead: Words,
+    preview: Box<[u8; MARKS]>,
     rows: [Row; ROOM],
     keys: [u64; ROOM],
     /// rows known, the new ones of the record that is being read included
@@ -113,6 +117,8 @@ impl Book {
             marks: Box::new([0; MARKS]),
             waiting: [0; PRINS],
             all: Words::new(),
+            ahead: Words::new(),
+            preview: Box::new([0; MARKS]),
             rows: [Row::default(); ROOM],
             keys: [0; ROOM],
             known: 0,
@@ -208,6 +214,11 @@ impl Book {
                 let g = self.grant(r, 1)? as usize;
                 self.licence(&letters, p, g)?;
             }
+            b"PV" => {
+                let p = r.up_to(0x0F)? as usize;
+                let g = self.grant(r, 1)? as usize;
+                return self.preview(p, g);
+            }
             b"QU" => return self.query(r),
             _ => return Err(2),
         }
@@ -233,6 +244,25 @@ impl Book {
         self.waiting[p] = self.waiting[p] & !(1 << g) | (waits as u64) << g;
         self.table.issue(p, g, matches!(letters, b"LI" | b"CF"));
         Ok(())
+    }
+
+    /// What a withdrawal would change. One of a provisional licence would
+    /// change no mark of the firm ones.
+    fn preview(&mut self, p: usize, g: usize) -> Result<Answer, u8> {
+        let stands = |licences: u64| g < self.table.count && licences >> g & 1 == 1;
+        let firm = stands(self.table.issued[p]);
+        if !firm && !stands(self.waiting[p]) {
+            return Err(7);
+        }
+        self.preview.copy_from_slice(&*self.marks);
+        if !firm {
+            return Ok(Answer::Nets([0; 2]));
+        }
+        self.table.issue(p, g, false);
+        self.table.evaluate(&mut self.ahead);
+        self.table.issue(p, g, true);
+        let changes = write_and_count(&self.ahead, &mut self.preview);
+        Ok(Answer::Nets(changes.map(|c| c.gained as i32 - c.lost as i32)))
     }
 
     fn query(&mut self, r: &mut Reader) -> Result<Answer, u8> {

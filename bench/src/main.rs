@@ -10,6 +10,7 @@ mod hand_book;
 mod measure;
 mod panel;
 mod picture;
+mod preview;
 mod waiting;
 mod worst;
 
@@ -374,6 +375,8 @@ fn main() {
         .collect();
     let waiting: Vec<waiting::Found> =
         books::for_waiting().iter().map(|b| waiting::measure(&t, b)).collect();
+    let previews: Vec<preview::Found> =
+        books::for_waiting().iter().map(|b| preview::measure(&t, b)).collect();
     let (panel, beside) = panel::measure();
     let (tried, worst) = worst::search(&t, &books::for_worst(), JOURNAL_GOAL);
 
@@ -395,6 +398,8 @@ fn main() {
     }
     println!();
     waiting::print(&waiting);
+    println!();
+    preview::print(&previews);
     println!();
     println!("a panel on a book of 64 rows, at most, beside a query on the same book");
     let r = ratio(panel / beside, PANEL_GOAL, 2);

@@ -51,8 +51,10 @@ fn flip(b: &Book) -> (Vec<u8>, i32) {
 
 fn fills(b: &Book) -> Vec<(String, Vec<u8>)> {
     let (flip, marks) = flip(b);
+    let preview = [b"PV", &b.licence()[2..]].concat();
     let mut fills = vec![
         ("TG of a standing grant".to_string(), b.again.clone()),
+        ("PV of a standing licence".to_string(), preview),
         ("QU".to_string(), b"QU\0\x02\x02".to_vec()),
         ("ST refused with 7".to_string(), b.refused()),
     ];

@@ -1,11 +1,13 @@
 //! Panels beside the other evaluator, and those that documents 01 and 02 tell.
-//! Where a right is open its bit is 0.
+//! Where a right is open its bit is 0. A preview of a withdrawal shows in no
+//! panel.
 
 use crate::boundary::{panel, Panel};
 use crate::families;
 use crate::parallel;
 use crate::write;
 use reference::listing::{replay, Answer, Book, LONGEST_JOURNAL};
+use reference::reader::{read_record, Record};
 use reference::sorts::{Claim, Conclusion, PACKS, PRINCIPALS};
 
 /// Principals above 15 that are asked about too.
@@ -26,8 +28,9 @@ pub fn generated(seed: u64) -> Vec<Vec<u8>> {
 pub fn run(journals: &[Vec<u8>]) -> bool {
     let judged = parallel::map(journals, |journal| judge(journal, &expected(journal)));
     let mut total = Judged::default();
-    let written = document01().into_iter().chain(provisional_licences());
-    judged.into_iter().chain(written).for_each(|one| total.add(one));
+    let without = parallel::map(journals, |journal| judge_without_previews(journal));
+    let written = document01().into_iter().chain(provisional_licences()).chain(previews());
+    judged.into_iter().chain(without).chain(written).for_each(|one| total.add(one));
     for fault in total.faults.iter().take(SHOWN_FAULTS) {
         println!("FAILED {fault}");
     }
@@ -68,6 +71,34 @@ fn judge(journal: &[u8], expected: &[(u8, Panel)]) -> Judged {
         }
     }
     judged
+}
+
+/// The panels of a journal with previews beside those of the same without them,
+/// through the library alone.
+fn judge_without_previews(journal: &[u8]) -> Judged {
+    match without_previews(journal) {
+        Some(shorter) => {
+            let panels = (0..PRINCIPALS).map(|principal| (principal, panel(&shorter, principal)));
+            judge(journal, &panels.collect::<Vec<_>>())
+        }
+        None => Judged::default(),
+    }
+}
+
+/// The journal without its previews, if it has any and can be read.
+fn without_previews(journal: &[u8]) -> Option<Vec<u8>> {
+    if journal.len() > LONGEST_JOURNAL {
+        return None;
+    }
+    let (mut shorter, mut rest) = (Vec::new(), journal);
+    while let Ok((record, length)) = read_record(rest) {
+        if !matches!(record, Record::PreviewWithdrawal(..)) {
+            shorter.extend(&rest[..length]);
+        }
+        rest = &rest[length..];
+    }
+    shorter.extend(rest);
+    (shorter.len() < journal.len()).then_some(shorter)
 }
 
 fn refused(refusal: u8) -> Panel {
@@ -143,6 +174,25 @@ fn provisional_licences() -> Vec<Judged> {
         judge(&confirmed, &[(3, shown(0xFFFF_FFFF, 0)), (1, shown(0, 0))]),
         judge(&issued, &[(3, shown(0xFFFF_FFFF, 0))]),
         judge(&withdrawn, &[(3, shown(1 << 4, 0))]),
+    ]
+}
+
+/// Answers written out from document 02, 6: what would fall still stands, of a
+/// firm licence and of a provisional one; and after the withdrawal it is gone.
+fn previews() -> Vec<Judged> {
+    let shown = |run, export| Panel { refusal: 0, run, export };
+    let any_pack = plain_over_packs(&write::run(3, write::ANY_PACK));
+    let pack_4 = write::plain(&write::export(3, 4));
+    let trusted = write::trust(&write::may_issue_all(1));
+    let entered = [trusted, write::licence(1, &any_pack), write::provisional(1, &pack_4)].concat();
+    let seen = [write::preview(1, &any_pack), write::preview(1, &pack_4)].concat();
+    let previewed = [entered, seen.clone(), write::preview(2, &pack_4)].concat();
+    let confirmed = [previewed.clone(), write::confirm(1, &pack_4), seen.clone()].concat();
+    let withdrawn = [confirmed.clone(), write::withdraw(1, &any_pack), seen].concat();
+    vec![
+        judge(&previewed, &[(3, shown(0xFFFF_FFFF, 0)), (1, shown(0, 0)), (16, refused(3))]),
+        judge(&confirmed, &[(3, shown(0xFFFF_FFFF, 1 << 4))]),
+        judge(&withdrawn, &[(3, shown(0, 1 << 4))]),
     ]
 }
 

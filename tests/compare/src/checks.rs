@@ -4,6 +4,7 @@ use crate::case::{Case, Expected};
 use crate::program::Program;
 use crate::properties::{answers, sums_and_signs};
 use crate::random::Random;
+use crate::without_preview;
 use crate::without_provisional;
 use crate::write::Bytes;
 use reference::listing::{Listing, LONGEST_JOURNAL};
@@ -41,6 +42,8 @@ pub fn check(program: &Program, case: &Case, reference: &Listing, seed: u64) -> 
         checks.push(Check { group: SUMS_AND_SIGNS, fault });
         checks.extend(without_refused(program, case, &printed, seed));
         checks.extend(without_provisional::checks(program, &case.journal, &printed));
+        let mut random = Random::new(seed, &case.name);
+        checks.extend(without_preview::checks(program, &case.journal, &printed, &mut random));
     }
     checks
 }
@@ -94,7 +97,7 @@ fn some_refused(answered: &[&str], random: &mut Random) -> Option<Vec<usize>> {
 
 /// The journal without the records at the given places. What cannot be read
 /// any more is kept as it is.
-fn take_out(journal: &[u8], places: &[usize]) -> Bytes {
+pub fn take_out(journal: &[u8], places: &[usize]) -> Bytes {
     let mut shorter = Vec::new();
     let mut rest = journal;
     let mut place = 0;

@@ -43,7 +43,8 @@ pub fn circles() -> Vec<Case> {
 }
 
 /// The same with the records in random order, with trust in the issuers, some
-/// licences provisional, and one of the circle withdrawn at the end.
+/// licences provisional, and one of the circle previewed and withdrawn at the
+/// end.
 fn shuffled_circles(seed: u64) -> Vec<Case> {
     const GROUP: &str = "circles in random order, with authority";
     let mut random = Random::new(seed, GROUP);
@@ -60,7 +61,7 @@ fn shuffled_circles(seed: u64) -> Vec<Case> {
         }
         random.shuffle(&mut records);
         let (p, grant) = random.choose(&links);
-        records.push(withdraw(*p, grant));
+        records.extend([preview(*p, grant), withdraw(*p, grant)]);
         (0..length).for_each(|i| records.push(query(&circle_statement(i).1)));
         cases.push(Case::compared(GROUP, format!("length {length}"), records.concat()));
     }

@@ -313,7 +313,7 @@ impl Rewriter<'_> {
             anew.extend(&mark);
             match mark.as_slice() {
                 b"QU" => anew.extend(self.conclusion()),
-                b"LI" | b"WD" | b"PL" | b"CF" => {
+                b"LI" | b"WD" | b"PV" | b"PL" | b"CF" => {
                     anew.extend(self.take(1));
                     anew.extend(self.grant());
                 }

@@ -111,7 +111,8 @@ fn loose_bytes(seed: u64) -> Vec<Case> {
     const LIKELY: [u8; 9] = [0, 0, 0, 1, 1, 2, 3, 0x80, 0x81];
     let mut random = Random::new(seed, GROUP);
     let mut make = |i: usize| {
-        let mut bytes = random.choose(&[b"TG", b"ST", b"LI", b"WD", b"PL", b"CF", b"QU"]).to_vec();
+        let letters = [b"TG", b"ST", b"LI", b"WD", b"PV", b"PL", b"CF", b"QU"];
+        let mut bytes = random.choose(&letters).to_vec();
         for _ in 0..random.below(40) {
             bytes.push(*random.choose(&LIKELY));
         }

@@ -53,7 +53,8 @@ struct Written {
 }
 
 /// Makes records that refer to each other: grants are used again, what was
-/// entered is later struck, and what was provisional is confirmed or withdrawn.
+/// entered is later struck, what was provisional is confirmed or withdrawn, and
+/// withdrawals are previewed.
 pub struct Generator<'a> {
     random: &'a mut Random,
     style: Style,
@@ -112,13 +113,14 @@ impl<'a> Generator<'a> {
 
     fn record(&mut self) -> Bytes {
         match self.random.below(100) {
-            0..=17 => self.enter(),
-            18..=35 => self.issue_licence(),
-            36..=53 => self.enter_provisional(),
-            54..=76 => self.query(),
-            77..=82 => self.confirm(),
-            83..=89 => self.strike(),
-            _ => self.withdraw(),
+            0..=16 => self.enter(),
+            17..=33 => self.issue_licence(),
+            34..=49 => self.enter_provisional(),
+            50..=68 => self.query(),
+            69..=74 => self.confirm(),
+            75..=81 => self.strike(),
+            82..=89 => self.withdraw(),
+            _ => self.preview(),
         }
     }
 
@@ -204,6 +206,23 @@ impl<'a> Generator<'a> {
         let place = self.random.below(list.len());
         let (issuer, grant) = list.swap_remove(place);
         withdraw(issuer, &grant)
+    }
+
+    /// Previews a withdrawal of what was firm, rather than provisional, or of
+    /// any licence; in one of four cases the withdrawal follows.
+    fn preview(&mut self) -> Bytes {
+        let list = match self.licences.is_empty() || self.random.percent(25) {
+            true => &self.provisional,
+            false => &self.licences,
+        };
+        let (issuer, grant) = match list.is_empty() || self.random.percent(10) {
+            true => (self.named_principal(), self.grant().bytes),
+            false => self.random.choose(list).clone(),
+        };
+        match self.random.percent(25) {
+            true => [preview(issuer, &grant), withdraw(issuer, &grant)].concat(),
+            false => preview(issuer, &grant),
+        }
     }
 
     /// An issuer and a grant that make one of the conditions hold.
@@ -405,13 +424,14 @@ pub fn damage(random: &mut Random, journal: &mut Bytes) {
 pub fn any_record(random: &mut Random, grants: &[Bytes]) -> Bytes {
     let issuer = random.byte_below(4);
     let grant = random.choose(grants);
-    match random.below(11) {
+    match random.below(12) {
         0..=2 => trust(grant),
         3..=4 => licence(issuer, grant),
         5..=6 => provisional(issuer, grant),
         7 => strike(grant),
         8 => withdraw(issuer, grant),
         9 => confirm(issuer, grant),
+        10 => preview(issuer, grant),
         _ => query(&issue(issuer, grant)),
     }
 }

@@ -19,6 +19,8 @@ mod lengths;
 mod marks;
 mod parallel;
 mod paths;
+mod preview;
+mod preview_faults;
 mod program;
 mod properties;
 mod random;
@@ -26,6 +28,7 @@ mod report;
 mod signature_faults;
 mod tables;
 mod tally;
+mod without_preview;
 mod without_provisional;
 mod write;
 
@@ -34,7 +37,7 @@ use program::Program;
 use reference::listing::listing;
 use report::Report;
 use std::process::ExitCode;
-use tally::{Tally, ENOUGH_OPEN};
+use tally::Tally;
 
 const SEED: u64 = 20_260_401;
 
@@ -70,6 +73,8 @@ fn all_cases(seed: u64) -> Vec<Case> {
     cases.extend(condition_order::cases(seed));
     cases.extend(countersignature::cases());
     cases.extend(signature_faults::cases());
+    cases.extend(preview::cases());
+    cases.extend(preview_faults::cases());
     cases.extend(document000::cases());
     cases.extend(conditions::cases());
     cases.extend(circles::cases(seed));
@@ -107,8 +112,9 @@ fn check_program(program: &Program, cases: &[Case], seed: u64, report: &mut Repo
         report.add(case, checks);
     }
     tally.print();
-    let all = Case::compared(ENOUGH_OPEN, "all of them".to_string(), Vec::new());
-    report.add(&all, &[generated.enough_open()]);
+    let enough = [generated.enough_open(), generated.enough_previews()];
+    let all = Case::compared(enough[0].group, "all of them".to_string(), Vec::new());
+    report.add(&all, &enough);
 }
 
 fn compare_marks(program: &Program, cases: &[Case], report: &mut Report) {

@@ -13,7 +13,7 @@ use crate::families::{middle_journals, narrow_journals, small_journals, waiting_
 use crate::program::Program;
 use crate::properties::answers;
 use crate::write::*;
-use crate::{circles, conditions, countersignature, document000, document01, tables};
+use crate::{circles, conditions, countersignature, document000, document01, preview, tables};
 use reference::bottom_up::standing_statements;
 use reference::grant::{
     ConclusionTree, Grant, GrantTerm, PackTerm, PrincipalTerm, ResourceVariable,
@@ -47,6 +47,7 @@ pub fn journals(seed: u64) -> Vec<Case> {
     let mut cases = document01::cases();
     cases.extend(countersignature::queries());
     cases.extend(countersignature::circles().into_iter().step_by(6));
+    cases.extend(preview::what_falls());
     cases.retain(|case| read_record(&case.journal).is_ok());
     cases.extend(document000::cases());
     cases.extend(conditions::cases());

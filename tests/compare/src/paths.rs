@@ -38,7 +38,8 @@ fn naming_each_other(seed: u64) -> Vec<Case> {
         random.shuffle(&mut records);
         let mut removals: Vec<Bytes> = records.iter().map(|record| removal(record)).collect();
         random.shuffle(&mut removals);
-        records.extend(removals);
+        let previewed = removals.iter().flat_map(|taken| [previews(taken), taken.clone()]);
+        records.extend(previewed);
         cases.push(Case::compared(GROUP, i.to_string(), records.concat()));
     }
     cases
@@ -68,8 +69,16 @@ fn removal(record: &[u8]) -> Bytes {
     }
 }
 
+/// The preview of a withdrawal; nothing before a strike.
+fn previews(removal: &[u8]) -> Bytes {
+    match &removal[..2] {
+        b"WD" => preview(removal[2], &removal[3..]),
+        _ => Bytes::new(),
+    }
+}
+
 /// A right carried by several licences and trusted grants, which are then
-/// taken away one after another.
+/// taken away one after another, each licence after a preview.
 fn second_paths(seed: u64) -> Vec<Case> {
     const GROUP: &str = "a right carried by another path";
     let right = plain(&run(9, 7));
@@ -105,7 +114,7 @@ fn second_paths(seed: u64) -> Vec<Case> {
         let mut removals: Vec<Bytes> = records.iter().map(|record| removal(record)).collect();
         random.shuffle(&mut removals);
         for taken in removals {
-            records.extend([taken, query(&run(9, 7))]);
+            records.extend([previews(&taken), taken, query(&run(9, 7))]);
         }
         cases.push(Case::compared(GROUP, i.to_string(), records.concat()));
     }

@@ -28,8 +28,9 @@ fn without_number(line: &str) -> &str {
 
 /// Line numbers count from 1 and the last line has their count. The nets of
 /// truths add up to the truths standing, those of sayings to the sayings, and
-/// all of them to the marks. An entry and a confirmation lose nothing of either
-/// kind, a removal gains nothing, and a provisional licence changes nothing.
+/// all of them to the marks; the nets of previews are left out. An entry and a
+/// confirmation lose nothing of either kind, a removal and its preview gain
+/// nothing, and a provisional licence changes nothing.
 pub fn sums_and_signs(listing: &str, standing: Count) -> Result<(), String> {
     let last = last_line(listing)?;
     let lines: Vec<&str> = listing.lines().collect();
@@ -59,6 +60,11 @@ pub fn sums_and_signs(listing: &str, standing: Count) -> Result<(), String> {
     }
 }
 
+/// The number of marks in the last line.
+pub fn marks_printed(listing: &str) -> Result<i64, String> {
+    last_line(listing).map(|last| last.marks)
+}
+
 fn last_line(listing: &str) -> Result<LastLine, String> {
     let line = listing.lines().last().unwrap_or("");
     let words: Vec<&str> = line.split(' ').collect();
@@ -71,7 +77,8 @@ fn last_line(listing: &str) -> Result<LastLine, String> {
     }
 }
 
-/// The nets of one answer; 0 for a query and a refusal.
+/// What the nets of one answer add to the sums; 0 for a query, a preview and a
+/// refusal.
 fn signed_nets(answer: &str) -> Result<Pair, String> {
     match answer.split_once(' ') {
         Some(("PL", "+0 +0")) => Ok(Pair { truths: 0, sayings: 0 }),
@@ -81,16 +88,22 @@ fn signed_nets(answer: &str) -> Result<Pair, String> {
             nets if nets.sayings < 0 => Err("an entry loses sayings".to_string()),
             nets => Ok(nets),
         },
-        Some(("ST" | "WD", nets)) => match parse_nets(nets)? {
-            nets if nets.truths > 0 => Err("a removal gains truths".to_string()),
-            nets if nets.sayings > 0 => Err("a removal gains sayings".to_string()),
-            nets => Ok(nets),
-        },
+        Some(("ST" | "WD", nets)) => parse_lost(nets),
+        Some(("PV", nets)) => parse_lost(nets).map(|_| Pair { truths: 0, sayings: 0 }),
         Some(("QU", "permitted" | "not permitted" | "open"))
         | Some(("refused", "1" | "2" | "3" | "4" | "5" | "6" | "7")) => {
             Ok(Pair { truths: 0, sayings: 0 })
         }
         _ => Err("unknown answer".to_string()),
+    }
+}
+
+/// The nets of a removal.
+fn parse_lost(nets: &str) -> Result<Pair, String> {
+    match parse_nets(nets)? {
+        nets if nets.truths > 0 => Err("a removal gains truths".to_string()),
+        nets if nets.sayings > 0 => Err("a removal gains sayings".to_string()),
+        nets => Ok(nets),
     }
 }
 

@@ -34,7 +34,7 @@ fn near_letters() -> Vec<Case> {
 }
 
 /// What may be wrong behind the letters, issuer first, and its number.
-const WRONG: &[(&str, u8)] = &[
+pub const WRONG: &[(&str, u8)] = &[
     ("", 1),
     ("10", 3),
     ("80", 3),

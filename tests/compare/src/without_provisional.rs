@@ -72,7 +72,7 @@ fn taken_as_firm(record: &Record, bytes: &[u8]) -> Option<Bytes> {
 }
 
 /// PL as a query that gives the same numbers; CF as LI where it is accepted;
-/// and no WD of a provisional licence.
+/// and no WD or PV of a provisional licence.
 fn left_out(machine: &mut Machine, record: &Record, bytes: &[u8]) -> Option<Bytes> {
     let waiting = machine.provisional.len();
     let accepted = machine.feed(record).is_ok();
@@ -80,6 +80,11 @@ fn left_out(machine: &mut Machine, record: &Record, bytes: &[u8]) -> Option<Byte
         Record::EnterProvisional(issuer, _) => Some(query(&issue(*issuer, &bytes[3..]))),
         Record::Confirm(issuer, _) => accepted.then(|| licence(*issuer, &bytes[3..])),
         Record::WithdrawLicence(..) if machine.provisional.len() < waiting => None,
+        Record::PreviewWithdrawal(issuer, grant)
+            if machine.provisional.contains(&(*issuer, grant.clone())) =>
+        {
+            None
+        }
         _ => Some(bytes.to_vec()),
     }
 }
@@ -90,7 +95,7 @@ fn fits_firm(answer: &str, anew: &str) -> bool {
     match (&answer[..3], answer) {
         (_, "QU open") => anew == "QU permitted",
         ("PL ", _) => anew.starts_with("LI "),
-        (letters @ ("TG " | "ST " | "LI " | "WD "), _) => anew.starts_with(letters),
+        (letters @ ("TG " | "ST " | "LI " | "WD " | "PV "), _) => anew.starts_with(letters),
         _ => anew == answer,
     }
 }

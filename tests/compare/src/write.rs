@@ -75,6 +75,11 @@ pub fn withdraw(issuer: u8, grant: &[u8]) -> Bytes {
     [b"WD", [issuer].as_slice(), grant].concat()
 }
 
+/// Asks what a withdrawal would change.
+pub fn preview(issuer: u8, grant: &[u8]) -> Bytes {
+    [b"PV", [issuer].as_slice(), grant].concat()
+}
+
 /// Enters a provisional licence.
 pub fn provisional(issuer: u8, grant: &[u8]) -> Bytes {
     [b"PL", [issuer].as_slice(), grant].concat()

@@ -8,10 +8,11 @@ use crate::sorts::{Conclusion, Count, Marks, Statement};
 
 pub const LONGEST_JOURNAL: usize = 65_536;
 
-/// The answer to one record.
+/// The answer to one record; to a preview, what the withdrawal would change.
 #[derive(Clone, Copy, Debug, PartialEq, Eq)]
 pub enum Outcome {
     Changed { letters: &'static str, nets: Nets },
+    Previewed(Nets),
     Queried(Answer),
     Refused(Refusal),
 }
@@ -86,15 +87,21 @@ impl Book {
     }
 
     pub fn call(&mut self, record: &Record) -> Outcome {
-        if let Err(refusal) = self.machine.feed(record) {
-            return Outcome::Refused(refusal);
-        }
-        match record {
+        self.accepted(record).unwrap_or_else(Outcome::Refused)
+    }
+
+    fn accepted(&mut self, record: &Record) -> Result<Outcome, Refusal> {
+        self.machine.feed(record)?;
+        Ok(match record {
             Record::Query(tree) => {
                 Outcome::Queried(self.answer(closed_conclusion(&self.machine, tree)))
             }
+            Record::PreviewWithdrawal(issuer, grant) => {
+                let after = self.machine.without(&(*issuer, grant.clone()))?;
+                Outcome::Previewed(self.nets_to(&standing_statements(&after)))
+            }
             _ => Outcome::Changed { letters: record.letters(), nets: self.work_out_marks() },
-        }
+        })
     }
 
     /// Whether a conclusion stands under every choice, under some or under none.
@@ -109,11 +116,15 @@ impl Book {
     /// Works the marks of the firm licences out anew; gives the gained less the lost.
     fn work_out_marks(&mut self) -> Nets {
         let marks = standing_statements(&self.machine);
-        let gained = marks.beyond(&self.marks);
-        let lost = self.marks.beyond(&marks);
+        let nets = self.nets_to(&marks);
         self.marks = marks;
         self.under_choices = None;
-        Nets::of(gained, lost)
+        nets
+    }
+
+    /// What other marks have more less what they lack, against those that stand.
+    fn nets_to(&self, marks: &Marks) -> Nets {
+        Nets::of(marks.beyond(&self.marks), self.marks.beyond(marks))
     }
 }
 
@@ -161,10 +172,13 @@ pub fn listing(journal: &[u8]) -> Listing {
 
 fn outcome_words(outcome: Outcome) -> String {
     match outcome {
-        Outcome::Changed { letters, nets: Nets { truths, sayings } } => {
-            format!("{letters} {truths:+} {sayings:+}")
-        }
+        Outcome::Changed { letters, nets } => changed_words(letters, nets),
+        Outcome::Previewed(nets) => changed_words("PV", nets),
         Outcome::Queried(answer) => format!("QU {}", answer.words()),
         Outcome::Refused(refusal) => format!("refused {}", refusal.number()),
     }
+}
+
+fn changed_words(letters: &str, Nets { truths, sayings }: Nets) -> String {
+    format!("{letters} {truths:+} {sayings:+}")
 }

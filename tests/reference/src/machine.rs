@@ -10,7 +10,7 @@ use crate::sorts::GRANT_NUMBERS;
 /// power of their number.
 pub const MOST_CHOSEN: usize = 6;
 
-type Licence = (u8, Grant);
+pub type Licence = (u8, Grant);
 
 /// T, the trusted grants; L, the firm licences, pairs of issuer and grant; the
 /// provisional ones, none of which is in L; N, the grants that have a number,
@@ -50,8 +50,18 @@ impl Machine {
             Record::Query(conclusion) => self.give_numbers(self.new_in_conclusion(conclusion)),
             Record::StrikeTrusted(grant) => remove(&mut self.trusted, grant),
             Record::WithdrawLicence(issuer, grant) => self.withdraw(&(*issuer, grant.clone())),
+            Record::PreviewWithdrawal(issuer, grant) => {
+                self.without(&(*issuer, grant.clone())).map(|_| ())
+            }
             Record::Confirm(issuer, grant) => self.confirm((*issuer, grant.clone())),
         }
+    }
+
+    /// The machine that a withdrawal of the licence would leave.
+    pub fn without(&self, licence: &Licence) -> Result<Machine, Refusal> {
+        let mut machine = self.clone();
+        machine.withdraw(licence)?;
+        Ok(machine)
     }
 
     /// A licence that was provisional is so no longer.

@@ -39,6 +39,7 @@ pub enum Record {
     StrikeTrusted(Grant),
     IssueLicence(u8, Grant),
     WithdrawLicence(u8, Grant),
+    PreviewWithdrawal(u8, Grant),
     EnterProvisional(u8, Grant),
     Confirm(u8, Grant),
     Query(ConclusionTree),
@@ -51,6 +52,7 @@ impl Record {
             Record::StrikeTrusted(_) => "ST",
             Record::IssueLicence(..) => "LI",
             Record::WithdrawLicence(..) => "WD",
+            Record::PreviewWithdrawal(..) => "PV",
             Record::EnterProvisional(..) => "PL",
             Record::Confirm(..) => "CF",
             Record::Query(_) => "QU",
@@ -64,6 +66,9 @@ impl Record {
             Record::IssueLicence(issuer, grant) => Record::IssueLicence(*issuer, grant.ordered()),
             Record::WithdrawLicence(issuer, grant) => {
                 Record::WithdrawLicence(*issuer, grant.ordered())
+            }
+            Record::PreviewWithdrawal(issuer, grant) => {
+                Record::PreviewWithdrawal(*issuer, grant.ordered())
             }
             Record::EnterProvisional(issuer, grant) => {
                 Record::EnterProvisional(*issuer, grant.ordered())
@@ -117,6 +122,7 @@ impl Reader<'_> {
             b"ST" => Ok(Record::StrikeTrusted(self.grant(1)?)),
             b"LI" => Ok(Record::IssueLicence(self.byte_up_to(0x0F)?, self.grant(1)?)),
             b"WD" => Ok(Record::WithdrawLicence(self.byte_up_to(0x0F)?, self.grant(1)?)),
+            b"PV" => Ok(Record::PreviewWithdrawal(self.byte_up_to(0x0F)?, self.grant(1)?)),
             b"PL" => Ok(Record::EnterProvisional(self.byte_up_to(0x0F)?, self.grant(1)?)),
             b"CF" => Ok(Record::Confirm(self.byte_up_to(0x0F)?, self.grant(1)?)),
             b"QU" => Ok(Record::Query(self.conclusion(NOTHING_DECLARED, 0)?)),
