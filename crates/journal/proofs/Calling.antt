@@ -18,8 +18,8 @@ calls-chain (then s r n l w h C x) = chains.then s _ r n l w C (calls-chain x)
 
 -- two calls of the same bytes, from the same book and buffers, are the same
 pub calls-only : {b b₁ b₂ : Book} {m m₁ m₂ k k₁ k₂ v v₁ v₂ s : List ℕ} {cs ds : List Call} → Calls b m k v s cs b₁ m₁ k₁ v₁ → Calls b m k v s ds b₂ m₂ k₂ v₂ →
-    (cs ≡ ds) × (b₁ ≡ b₂) × (m₁ ≡ m₂) × (k₁ ≡ k₂)
-calls-only ended ended = (refl, refl, refl, refl)
+    (cs ≡ ds) × (b₁ ≡ b₂) × (m₁ ≡ m₂) × (k₁ ≡ k₂) × (v₁ ≡ v₂)
+calls-only ended ended = (refl, refl, refl, refl, refl)
 calls-only ended (then s r n l w h C x) = absurd (omega arith)
 calls-only (then s r n l w h C x) ended = absurd (omega arith)
 calls-only {b} {b₁} {b₂} {m} {m₁} {m₂} {k} {k₁} {k₂} {v} {v₁} {v₂} (then {cs = cs} s r n l w h C x) (then {cs = ds} t r′ n′ l′ w′ h′ C′ y) =
@@ -34,4 +34,5 @@ calls-only {b} {b₁} {b₂} {m} {m₁} {m₂} {k} {k₁} {k₂} {v} {v₁} {v�
       u .1,
       u .2,
       u .3,
+      u .4,
     )

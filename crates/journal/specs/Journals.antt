@@ -20,12 +20,11 @@ pub data Calls : Book → List ℕ → List ℕ → List ℕ → List ℕ → Li
       Called b m k v s r n l w → Calls (r .book) n l w (restAfter (r .used) s) cs b′ m′ k′ v′ →
       Calls b m k v s (record { record′ = s; before = b; marks = m; second = k; preview = v; gave = r; left = n; leftSecond = l; leftPreview = w } ∷ cs) b′ m′ k′ v′
 
--- The book b and the marks m and k that a journal s leaves: those with which its calls, from a fresh book and with all three buffers
--- 0, end.
-pub record Leaves (s : List ℕ) (b : Book) (m k : List ℕ) : Type 0 where
+-- The book b, the marks m and k and the preview buffer v that a journal s leaves: those with which its calls, from a fresh book and
+-- with all three buffers 0, end.
+pub record Leaves (s : List ℕ) (b : Book) (m k v : List ℕ) : Type 0 where
   pub calls : List Call
-  pub preview : List ℕ
-  pub made : Calls freshBook freshMarks freshMarks freshMarks s calls b m k preview
+  pub made : Calls freshBook freshMarks freshMarks freshMarks s calls b m k v
 
 -- THE PROMISE of a step at a place of the journal s, which is that of record n: it is the call on what is left to read, and its
 -- line is that record's.

@@ -41,11 +41,11 @@ pub fn step(
     }
 }
 
-// The book that the records of a journal leave, read from a fresh one on; the marks in both buffers lent with it are those that
-// they leave. The preview buffer is lent with each record.
+// The book that the records of a journal leave, read from a fresh one on; the marks in both buffers and the preview buffer lent with
+// it are those that they leave.
 pub fn book_after(s: &[u8], marks: &mut [u8], second: &mut [u8], preview: &mut [u8]) -> Book
     requires { ⌜ (now marks ≡ freshMarks) × (now second ≡ freshMarks) × (now preview ≡ freshMarks) ⌝ }
-    ensures { λ b. ⌜ Leaves (now (s .entry)) b (now (marks .exit)) (now (second .exit)) ⌝ }
+    ensures { λ b. ⌜ Leaves (now (s .entry)) b (now (marks .exit)) (now (second .exit)) (now (preview .exit)) ⌝ }
 {
     let mut b = Book::new();
     let mut at: usize = 0;

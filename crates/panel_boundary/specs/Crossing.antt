@@ -1,9 +1,10 @@
--- The panel of a journal, and how it crosses to a program in another language.
+-- The panel of a journal and the preview buffer that it leaves, and how they cross to a program in another language.
 use Prim.Native.Nat.{ℕ, _/_, _%_, _≤_, _<_}
 use mathlib.Core.Path.{_≡_}
 use mathlib.Core.List.{List, [], _∷_, _++_}
 use lib.ListN.{length}
 use Rattle.book.specs.declared.Book.{Book}
+use Rattle.book.specs.Chains.{freshMarks}
 use Rattle.journal.specs.Journals.{Leaves}
 use Rattle.panel.specs.declared.Panel.{Panel}
 use Rattle.panel.specs.Panels.{numberSaid, refusedWith, PanelOf}
@@ -12,7 +13,7 @@ use Rattle.panel.specs.Panels.{numberSaid, refusedWith, PanelOf}
 -- "a journal over 65,536 bytes".
 pub data JournalPanel (s : List ℕ) (p : ℕ) : Panel → Type 0 where
   over : 65536 < length s → JournalPanel s p (refusedWith 8)
-  read : (b : Book) (m k : List ℕ) (r : Panel) → length s ≤ 65536 → Leaves s b m k → PanelOf b m k p r → JournalPanel s p r
+  read : (b : Book) (m k v : List ℕ) (r : Panel) → length s ≤ 65536 → Leaves s b m k v → PanelOf b m k p r → JournalPanel s p r
 
 -- The four bytes of a 32-bit word, high byte first.
 abbrev pub bytesOf : ℕ → List ℕ
@@ -25,3 +26,10 @@ pub record Crossed (s : List ℕ) (p k : ℕ) (w : List ℕ) : Type 0 where
   pub shown : JournalPanel s p panel
   pub number : k ≡ numberSaid (panel .said)
   pub words : w ≡ bytesOf (panel .run) ++ bytesOf (panel .export)
+
+-- THE PROMISE of the preview buffer of a journal s: the number returned, and all 39,168 bytes that cross. A journal over 65,536 bytes
+-- has 8, and each byte is 0. For any other it is 0, and the bytes are those that the calls on its records, from a fresh book and with
+-- all three buffers 0, leave in the preview buffer.
+pub data JournalPreview (s : List ℕ) : ℕ → List ℕ → Type 0 where
+  blank : 65536 < length s → JournalPreview s 8 freshMarks
+  left : (b : Book) (m k v : List ℕ) → length s ≤ 65536 → Leaves s b m k v → JournalPreview s 0 v

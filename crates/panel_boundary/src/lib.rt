@@ -1,4 +1,4 @@
-// The panel of a journal, for programs in other languages: numbers and lent bytes alone cross.
+// The panel of a journal and the preview buffer that it leaves, for programs in other languages: numbers and lent bytes alone cross.
 use panel::Panel;
 use panel::Said;
 use sorts::Number;
@@ -8,7 +8,7 @@ ghost use mathlib.Core.List.{_++_};
 ghost use Prim.Native.Nat.{_/_, _%_, _<_};
 ghost use Rattle.book.specs.Chains.{freshMarks};
 ghost use Rattle.panel.specs.Panels.{numberSaid};
-ghost use Rattle.panel_boundary.specs.Crossing.{bytesOf, JournalPanel, Crossed};
+ghost use Rattle.panel_boundary.specs.Crossing.{bytesOf, JournalPanel, Crossed, JournalPreview};
 
 // The panel of principal p over the book that a journal leaves.
 fn panel_after(s: &[u8], p: u8, marks: &mut [u8], second: &mut [u8], preview: &mut [u8]) -> Panel
@@ -73,4 +73,31 @@ pub extern "C" fn panel_of_journal(s: &[u8], p: u8, out: &mut [u8; 8]) -> u8
     *out = words(r.run, r.export);
     let said = r.said;
     number(said)
+}
+
+// The records of a journal called with the preview buffer lent. It returns 0, or the number of the refusal, and then nothing is
+// written.
+fn preview_after(s: &[u8], marks: &mut [u8], second: &mut [u8], preview: &mut [u8]) -> u8
+    requires { ⌜ (now marks ≡ freshMarks) × (now second ≡ freshMarks) × (now preview ≡ freshMarks) ⌝ }
+    ensures { λ k. ⌜ JournalPreview (now (s .entry)) k (now (preview .exit)) ⌝ }
+{
+    if places::over(s.len()) {
+        return Refusal::LENGTH;
+    }
+    journal::book_after(s, marks, second, preview);
+    0
+}
+
+// The preview buffer as the records of a journal leave it, from a fresh book and with every buffer 0: the marks of the last preview
+// that was accepted, and 0 where none was. It returns 0, or the number of the refusal with all bytes 0.
+#[no_mangle]
+pub extern "C" fn preview_of_journal(s: &[u8], out: &mut [u8; Number::MARKS]) -> u8
+    ensures { λ k. ⌜ JournalPreview (now (s .entry)) k (now (out .exit)) ⌝ }
+{
+    let mut marks = [0u8; Number::MARKS];
+    let mut second = [0u8; Number::MARKS];
+    let mut preview = [0u8; Number::MARKS];
+    let k = preview_after(s, &mut marks, &mut second, &mut preview);
+    *out = preview;
+    k
 }

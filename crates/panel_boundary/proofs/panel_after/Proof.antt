@@ -40,7 +40,7 @@ same-length-3 c = search needs
 
 -- src/lib.rt:14:1
 returns-2 : tie.Need-returns-2
-returns-2 c = read (c .before .before .before .before .before .before .before .before .before .book-after .result) _ _ (c .show .result) (ltb-false 65536 _ (sym (c .before .before .before .before .before .before .before .before .before .before .before .before .before .before .over .ensures) ∙ c .before .before .before .before .before .before .before .before .before .before .before .before .before .if1 .left)) (c .before .before .before .before .before .before .before .before .before .book-after .ensures) (c .show .ensures)
+returns-2 c = read (c .before .before .before .before .before .before .before .before .before .book-after .result) _ _ _ (c .show .result) (ltb-false 65536 _ (sym (c .before .before .before .before .before .before .before .before .before .before .before .before .before .before .over .ensures) ∙ c .before .before .before .before .before .before .before .before .before .before .before .before .before .if1 .left)) (c .before .before .before .before .before .before .before .before .before .book-after .ensures) (c .show .ensures)
 
 pub panel-after-spec : {M : Type 1} → statement M
 panel-after-spec =
