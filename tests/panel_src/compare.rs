@@ -4,6 +4,7 @@
 
 use crate::boundary::{panel, Panel};
 use crate::families;
+use crate::judged::Judged;
 use crate::parallel;
 use crate::write;
 use reference::listing::{replay, Answer, Book, LONGEST_JOURNAL};
@@ -14,7 +15,6 @@ use reference::sorts::{Claim, Conclusion, PACKS, PRINCIPALS};
 const ABOVE: [u8; 5] = [16, 17, 31, 128, 255];
 /// Every so many of the generated journals is taken.
 const STRIDE: usize = 4;
-const SHOWN_FAULTS: usize = 20;
 
 /// Journals of every family, and one that is too long.
 pub fn generated(seed: u64) -> Vec<Vec<u8>> {
@@ -24,37 +24,16 @@ pub fn generated(seed: u64) -> Vec<Vec<u8>> {
     journals
 }
 
-/// Compares the panels of all principals; true when none is another.
-pub fn run(journals: &[Vec<u8>]) -> bool {
+/// Compares the panels of all principals.
+pub fn run(journals: &[Vec<u8>]) -> Judged {
     let judged = parallel::map(journals, |journal| judge(journal, &expected(journal)));
-    let mut total = Judged::default();
     let without = parallel::map(journals, |journal| judge_without_previews(journal));
     let written = document01().into_iter().chain(provisional_licences()).chain(previews());
-    judged.into_iter().chain(without).chain(written).for_each(|one| total.add(one));
-    for fault in total.faults.iter().take(SHOWN_FAULTS) {
-        println!("FAILED {fault}");
-    }
+    let total = Judged::all(judged.into_iter().chain(without).chain(written));
     let open: usize = parallel::map(journals, |journal| open_rights(journal)).iter().sum();
-    let bits = total.bits;
-    let count = journals.len();
+    let (count, bits) = (journals.len(), total.ones);
     println!("panels of {count} journals: {bits} rights over packs permitted, {open} open");
-    println!("{} passed, {} failed", total.passed, total.faults.len());
-    total.faults.is_empty()
-}
-
-#[derive(Default)]
-struct Judged {
-    passed: usize,
-    bits: u32,
-    faults: Vec<String>,
-}
-
-impl Judged {
-    fn add(&mut self, other: Judged) {
-        self.passed += other.passed;
-        self.bits += other.bits;
-        self.faults.extend(other.faults);
-    }
+    total
 }
 
 /// One case for each principal.
@@ -62,13 +41,12 @@ fn judge(journal: &[u8], expected: &[(u8, Panel)]) -> Judged {
     let mut judged = Judged::default();
     for &(principal, panel_expected) in expected {
         let found = panel(journal, principal);
-        judged.bits += found.run.count_ones() + found.export.count_ones();
-        match found == panel_expected {
-            true => judged.passed += 1,
-            false => judged.faults.push(format!(
+        judged.ones += (found.run.count_ones() + found.export.count_ones()) as usize;
+        judged.case((found != panel_expected).then(|| {
+            format!(
                 "principal {principal}, journal {journal:02x?}: {found:x?}, not {panel_expected:x?}"
-            )),
-        }
+            )
+        }));
     }
     judged
 }

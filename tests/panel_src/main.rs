@@ -1,5 +1,5 @@
-//! The panels of journals, through the static library of the crate
-//! `panel_boundary`.
+//! The panels of journals, and the preview buffers that they leave, through the
+//! static library of the crate `panel_boundary`.
 //!
 //! Usage: panel show JOURNAL
 //!        panel compare SEED JOURNAL..
@@ -7,7 +7,8 @@
 //! `show` prints the panel of a journal: a line for each principal with its
 //! number and the words of run and of export in hexadecimal, bit n of a word
 //! for pack n; or `refused 8`. `compare` checks the panels of the journals
-//! given and of generated ones against the other evaluator.
+//! given and of generated ones, and their preview buffers, against the other
+//! evaluator.
 
 #![allow(dead_code)]
 
@@ -19,14 +20,17 @@ mod compare;
 mod families;
 #[path = "../compare/src/generate.rs"]
 mod generate;
+mod judged;
 #[path = "../compare/src/parallel.rs"]
 mod parallel;
+mod previews;
 #[path = "../compare/src/random.rs"]
 mod random;
 #[path = "../compare/src/write.rs"]
 mod write;
 
 use boundary::{panel, Panel};
+use judged::Judged;
 use std::process::ExitCode;
 
 fn main() -> ExitCode {
@@ -64,12 +68,12 @@ fn show(journal: &[u8]) -> ExitCode {
 }
 
 fn compare(seed: u64, paths: &[&str]) -> ExitCode {
-    let mut journals = compare::generated(seed);
-    for path in paths {
-        let Some(journal) = read(path) else { return ExitCode::FAILURE };
-        journals.push(journal);
-    }
-    match compare::run(&journals) {
+    let Some(given) = paths.iter().map(|path| read(path)).collect::<Option<Vec<_>>>() else {
+        return ExitCode::FAILURE;
+    };
+    let panels = compare::run(&[compare::generated(seed), given.clone()].concat());
+    let buffers = previews::run(&[previews::generated(seed), given].concat());
+    match Judged::all([panels, buffers]).report() {
         true => ExitCode::SUCCESS,
         false => ExitCode::FAILURE,
     }
