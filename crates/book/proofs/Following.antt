@@ -36,11 +36,14 @@ use Rattle.flags.proofs.Changing.{FlagsFit, entered-fit, removed-fit}
 use Rattle.machine.specs.Machine.{State, Entry, Step, changes, previews, asks, refuses, refuse, previewed, change, act, acted, step, stands, entered, there, removed}
 use Rattle.machine.proofs.Apart.{Apart, entered-apart, removed-apart}
 use Rattle.machine.proofs.Flags.{Shown, entered-shown, removed-shown, there-shown, set-shown, apart-flags, flags-apart}
-use Rattle.book.specs.declared.Book.{Book}
-use Rattle.book.specs.declared.Answered.{Answered}
-use Rattle.book.specs.Books.{BookForm, Shows}
+use Rattle.bookform.specs.declared.Book.{Book}
+use Rattle.bookform.specs.Books.{BookForm}
+use Rattle.book.specs.Shows.{Shows}
 use Rattle.book.specs.Calls.{answerOf, marksAfter, secondAfter, previewAfter, Follows}
-use Rattle.book.specs.inner.Apply.{firmMarks, bothMarks, refusedWith, changedTo, previewedBy, enteredBook, removedBook, appliedTo, marksAppliedTo, previewAppliedTo, applied, marksApplied, previewApplied, FoundFits, Ready}
+use Rattle.renewing.specs.inner.Buffers.{firmMarks, bothMarks}
+use Rattle.answer.specs.inner.Answering.{refusedWith}
+use Rattle.revising.specs.inner.Revising.{changedTo, previewedBy, enteredBook, removedBook}
+use Rattle.requests.specs.inner.Apply.{appliedTo, marksAppliedTo, previewAppliedTo, applied, marksApplied, previewApplied, FoundFits, Ready}
 use Rattle.book.proofs.Showing.{shown-more, shown-book}
 use Rattle.book.proofs.Forms.{table-rows, number-has, found-fits, firm-status}
 

@@ -35,7 +35,7 @@ use Rattle.reader.specs.declared.records.Found.the-variants as found
 use Rattle.exact.specs.Writing.{AllowedRecord}
 use Rattle.exact.proofs.CanonicalRecords.{canonical-exact}
 use Rattle.rules.specs.Rules.{RowsForm}
-use Rattle.book.specs.inner.Apply.{FoundFits}
+use Rattle.requests.specs.inner.Apply.{FoundFits}
 
 -- every row of a table in form is in form, the blank ones too
 

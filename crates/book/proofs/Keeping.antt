@@ -11,11 +11,13 @@ use Rattle.reader.specs.declared.records.Found.{Found}
 use Rattle.reader.specs.declared.records.Found.the-variants as found
 use Rattle.reader.specs.declared.records.Reading.{Reading}
 use Rattle.machine.specs.Machine.{step}
-use Rattle.book.specs.declared.Book.{Book}
-use Rattle.book.specs.declared.Answered.{Answered}
-use Rattle.book.specs.Books.{Lent}
+use Rattle.bookform.specs.declared.Book.{Book}
+use Rattle.answer.specs.declared.Answered.{Answered}
+use Rattle.bookform.specs.Books.{Lent}
 use Rattle.book.specs.Calls.{Follows, Called}
-use Rattle.book.specs.inner.Apply.{firmMarks, bothMarks, appliedTo, applied, marksApplied, previewApplied, refusedWith}
+use Rattle.renewing.specs.inner.Buffers.{firmMarks, bothMarks}
+use Rattle.answer.specs.inner.Answering.{refusedWith}
+use Rattle.requests.specs.inner.Apply.{appliedTo, applied, marksApplied, previewApplied}
 use Rattle.book.proofs.Following.{follows}
 
 pub called-unformed : (b : Book) (m k v s : List ℕ) (a : Answered) → (Lent b m k v → ⊥) → a ≡ refusedWith b 9 0 → Called b m k v s a m k v

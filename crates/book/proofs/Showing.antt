@@ -16,10 +16,10 @@ use Rattle.rows.specs.Numbering.{place, has}
 use Rattle.rows.specs.Form.{noGrant, rowsOut}
 use Rattle.rows.proofs.Place.{Distinct, place-at, has-in, has-lt}
 use Rattle.rows.proofs.Appended.{Ext, ext-length}
-use Rattle.book.specs.declared.Book.{Book}
+use Rattle.bookform.specs.declared.Book.{Book}
 use Rattle.machine.specs.Machine.{State, Entry, stands}
 use Rattle.flags.specs.Changes.{bit}
-use Rattle.book.specs.Books.{Shows}
+use Rattle.book.specs.Shows.{Shows}
 use Rattle.machine.proofs.Flags.{Shown}
 
 pub has-ext : (g : Grant) {N N′ : List Grant} → Ext N N′ → has g N ≡ true → has g N′ ≡ true

@@ -2,10 +2,7 @@
 use Prim.Native.Nat.{ℕ}
 use mathlib.Core.Path.{_≡_}
 use mathlib.Core.Logic.{_⊎_}
-use mathlib.Core.Bool.{cond}
 use mathlib.Core.List.{List}
-use lib.ListN.{getD}
-use lib.Dec.{eqb}
 use Rattle.sorts.specs.declared.Prin.{Prin}
 use Rattle.sorts.specs.declared.Status.the-variants.{Issued}
 use Rattle.rows.specs.Written.{Grant}
@@ -13,18 +10,15 @@ use Rattle.rows.specs.Numbering.{place}
 use Rattle.rules.specs.Standing.{standing}
 use Rattle.flags.specs.Both.{bothFlags}
 use Rattle.flags.specs.Changes.{removedFlags}
-use Rattle.book.specs.declared.Book.{Book}
-use Rattle.book.specs.declared.Answer.{Answer}
-use Rattle.book.specs.declared.Answer.the-variants.{Permitted, Open, NotPermitted, Changed, Previewed, Refused}
-use Rattle.book.specs.declared.Answered.{Answered}
+use Rattle.bookform.specs.declared.Book.{Book}
+use Rattle.answer.specs.declared.Answer.{Answer}
+use Rattle.answer.specs.declared.Answer.the-variants.{Changed, Previewed, Refused}
+use Rattle.answer.specs.declared.Answered.{Answered}
+use Rattle.answer.specs.Answers.{answerAt}
 use Rattle.machine.specs.Machine.{State, Step, Verdict, changes, previews, asks, refuses, step}
-use Rattle.book.specs.Books.{BookForm, Lent, Shows}
+use Rattle.bookform.specs.Books.{BookForm, Lent}
+use Rattle.book.specs.Shows.{Shows}
 use Rattle.marks.specs.Counts.{countsOf}
-
--- "QU reads its mark": the answer for the closed conclusion with number c. Document 02, 5: "a query takes its answer from the second
--- buffer only where its mark in the first is 0".
-abbrev pub answerAt : List ℕ → List ℕ → ℕ → Answer
-answerAt m k c = cond (eqb (getD m c 0) 1) Permitted (cond (eqb (getD k c 0) 1) Open NotPermitted)
 
 -- The answer in the documents' terms, from what the machine says, the marks m and k before, and the first buffer n and the preview
 -- buffer w after: "The existing marks and counts are those of the firm licences." Document 02, 6: PV "returns the counts" that "WD

@@ -1,21 +1,12 @@
--- Lists of calls from a fresh book.
+-- Lists of calls.
 use Prim.Native.Nat.{ℕ}
 use mathlib.Core.List.{List, [], _∷_}
-use lib.ListN.{length, replicate}
-use Rattle.sorts.specs.Blank.{blankRow}
-use Rattle.sorts.specs.Numbers.{grants, allMarks}
-use Rattle.sorts.specs.Flags.{allFlags}
-use Rattle.book.specs.declared.Book.{Book}
-use Rattle.book.specs.declared.Answered.{Answered}
+use lib.ListN.{length}
+use Rattle.sorts.specs.Numbers.{allMarks}
+use Rattle.bookform.specs.declared.Book.{Book}
+use Rattle.answer.specs.declared.Answered.{Answered}
 use Rattle.machine.specs.Machine.{State, feed}
 use Rattle.book.specs.Calls.{Called}
-
--- "A fresh book has blank rows, count 0, and every flag and mark 0."
-abbrev pub freshBook : Book
-freshBook = record { table = record { rows = replicate grants blankRow; count = 0 }; flags = replicate allFlags 0 }
-
-unfoldable pub freshMarks : List ℕ
-freshMarks = replicate allMarks 0
 
 -- One call of a list: the bytes of its record, what it answered, the book and buffers it got, and those it left.
 pub record Call : Type 0 where

@@ -1,4 +1,3 @@
-pub mod Books
 pub mod Calls
 pub mod Chains
-pub mod inner
+pub mod Shows

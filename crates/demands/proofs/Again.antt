@@ -22,10 +22,10 @@ use Rattle.machine.proofs.Apart.{Apart, entered-firm, entered-present}
 use Rattle.machine.proofs.Flags.{flags-apart}
 use Rattle.blocks.specs.Gains.{gains}
 use Rattle.marks.specs.Counts.{Statements, truths, sayings, marksOf, changeOf, countsOf}
-use Rattle.book.specs.declared.Book.{Book}
-use Rattle.book.specs.declared.Answer.the-variants.{Changed}
-use Rattle.book.specs.declared.Answered.{Answered}
-use Rattle.book.specs.Books.{Shows}
+use Rattle.bookform.specs.declared.Book.{Book}
+use Rattle.answer.specs.declared.Answer.the-variants.{Changed}
+use Rattle.answer.specs.declared.Answered.{Answered}
+use Rattle.book.specs.Shows.{Shows}
 use Rattle.book.specs.Calls.{answerOf, Called}
 use Rattle.demands.specs.Worth.{unchanged, noCounts}
 use Rattle.demands.proofs.Balance.{none-gained, kind-bits}

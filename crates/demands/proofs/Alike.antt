@@ -20,11 +20,12 @@ use Rattle.canon.proofs.Sets.{same-canon}
 use Rattle.reader.specs.Records.{Record, enter, remove, confirm, preview, query, readRecord, readCanonical, canonRecord}
 use Rattle.reader.specs.Requests.{fits}
 use Rattle.exact.proofs.CanonicalRecords.{canonical-of}
-use Rattle.book.specs.declared.Book.{Book}
-use Rattle.book.specs.declared.Answer.{Answer}
-use Rattle.book.specs.declared.Answered.{Answered}
+use Rattle.bookform.specs.declared.Book.{Book}
+use Rattle.answer.specs.declared.Answer.{Answer}
+use Rattle.answer.specs.declared.Answered.{Answered}
 use Rattle.machine.specs.Machine.{State, Verdict, Step, changes, previews, asks, refuses, refuse, act, acted, step, feed, stands, there}
-use Rattle.book.specs.Books.{Lent, Shows}
+use Rattle.bookform.specs.Books.{Lent}
+use Rattle.book.specs.Shows.{Shows}
 use Rattle.book.specs.Calls.{answerOf, marksAfter, secondAfter, previewAfter, Called}
 use Rattle.book.specs.Chains.{Call, Chain, none, then, Fed, records, runs}
 use Rattle.demands.specs.Alike.{asked, Alike, AllAlike, answered}

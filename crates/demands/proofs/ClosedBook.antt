@@ -22,8 +22,9 @@ use Rattle.flags.specs.Changes.{bit}
 use Rattle.flags.proofs.Both.{both-trusted, both-set}
 use Rattle.machine.specs.Machine.{State, stands}
 use Rattle.machine.specs.Closed.{grantAt, rowAt, StandsAs, Licensed, ClosedSet, Stands}
-use Rattle.book.specs.declared.Book.{Book}
-use Rattle.book.specs.Books.{BookForm, Shows}
+use Rattle.bookform.specs.declared.Book.{Book}
+use Rattle.bookform.specs.Books.{BookForm}
+use Rattle.book.specs.Shows.{Shows}
 use Rattle.book.proofs.Forms.{table-rows}
 use Rattle.demands.proofs.RowBack.{shown-row}
 use Rattle.demands.proofs.Views.{View, firm, both, flagsIn, choiceOf, marksIn, Has}

@@ -17,16 +17,17 @@ use Rattle.rows.proofs.Bytes.{no-true}
 use Rattle.ranges.specs.Bytes.{Outcome, got, refused}
 use Rattle.reader.specs.Records.{Record, enter, remove, confirm, preview, query, readCanonical}
 use Rattle.reader.specs.Requests.{fits}
-use Rattle.book.specs.declared.Book.{Book}
+use Rattle.bookform.specs.declared.Book.{Book}
 use Rattle.marks.specs.declared.Counts.{Counts}
-use Rattle.book.specs.declared.Answer.{Answer}
-use Rattle.book.specs.declared.Answer.the-variants.{Permitted, Open, NotPermitted, Changed, Previewed, Refused}
-use Rattle.book.specs.declared.Answered.{Answered}
+use Rattle.answer.specs.declared.Answer.{Answer}
+use Rattle.answer.specs.declared.Answer.the-variants.{Permitted, Open, NotPermitted, Changed, Previewed, Refused}
+use Rattle.answer.specs.declared.Answered.{Answered}
 use Rattle.machine.specs.Machine.{State, Step, Verdict, changes, previews, asks, refuses, refuse, act, acted, step, stands, there}
 use Rattle.marks.specs.Counts.{Statements, truths, sayings, changeOf, countsOf, changeIn}
 use Rattle.demands.specs.Worth.{worth}
-use Rattle.book.specs.Books.{Lent}
-use Rattle.book.specs.Calls.{answerAt, answerOf, marksAfter, secondAfter, previewAfter, Follows, Called}
+use Rattle.bookform.specs.Books.{Lent}
+use Rattle.answer.specs.Answers.{answerAt}
+use Rattle.book.specs.Calls.{answerOf, marksAfter, secondAfter, previewAfter, Follows, Called}
 use Rattle.demands.specs.Demands.{Turned, Answers, Demand1}
 use Rattle.exact.proofs.CanonicalRecords.{canonical-refused}
 use Rattle.exact.proofs.Faults.{fault-range}

@@ -12,12 +12,14 @@ use Rattle.rules.specs.Standing.{In}
 use Rattle.machine.specs.Machine.{State, Verdict, asks, start, feed}
 use Rattle.machine.specs.Closed.{ClosedSet, Lacking}
 use Rattle.machine.proofs.Choices.{permitted-none, not-permitted-all, open-both}
-use Rattle.book.specs.declared.Book.{Book}
-use Rattle.book.specs.declared.Answer.{Answer}
-use Rattle.book.specs.declared.Answer.the-variants.{Permitted, Open, NotPermitted, Changed, Previewed, Refused}
-use Rattle.book.specs.declared.Answered.{Answered}
-use Rattle.book.specs.Calls.{answerAt, answerOf, marksAfter, secondAfter, Called}
-use Rattle.book.specs.Chains.{freshBook, freshMarks, Call, Chain, records, runs}
+use Rattle.bookform.specs.declared.Book.{Book}
+use Rattle.answer.specs.declared.Answer.{Answer}
+use Rattle.answer.specs.declared.Answer.the-variants.{Permitted, Open, NotPermitted, Changed, Previewed, Refused}
+use Rattle.answer.specs.declared.Answered.{Answered}
+use Rattle.answer.specs.Answers.{answerAt}
+use Rattle.book.specs.Calls.{answerOf, marksAfter, secondAfter, Called}
+use Rattle.bookform.specs.Books.{freshBook, freshMarks}
+use Rattle.book.specs.Chains.{Call, Chain, records, runs}
 use Rattle.demands.specs.Demands.{Demand2}
 use Rattle.demands.proofs.Views.{View, firm, both, choiceOf, marksIn}
 use Rattle.demands.proofs.ClosedBook.{stands-in, stands-out}

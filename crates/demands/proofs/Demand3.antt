@@ -13,10 +13,11 @@ use Rattle.rules.specs.Standing.{In}
 use Rattle.machine.specs.Machine.{State, Step, start, step, feed}
 use Rattle.machine.specs.Closed.{Stands}
 use Rattle.marks.specs.Counts.{Statements, truths, sayings, ones, marksOf}
-use Rattle.book.specs.declared.Book.{Book}
-use Rattle.book.specs.declared.Answered.{Answered}
+use Rattle.bookform.specs.declared.Book.{Book}
+use Rattle.answer.specs.declared.Answered.{Answered}
 use Rattle.book.specs.Calls.{Called}
-use Rattle.book.specs.Chains.{freshBook, freshMarks, Call, Chain, none, then, records, runs}
+use Rattle.bookform.specs.Books.{freshBook, freshMarks}
+use Rattle.book.specs.Chains.{Call, Chain, none, then, records, runs}
 use Rattle.demands.specs.Worth.{allGains, allLosses}
 use Rattle.demands.specs.Demands.{Agrees, NoLoss, NoGain, OneWay, AllOneWay, Demand3}
 use Rattle.demands.proofs.Balance.{ones-none, ones-kinds}

@@ -7,12 +7,15 @@ use lib.ListN.{length, length-replicate}
 use Rattle.sorts.specs.Numbers.{allMarks}
 use Rattle.reader.specs.inner.OneRecord.{numRecord}
 use Rattle.reader.proofs.Record.{reads-within}
-use Rattle.book.specs.declared.Book.{Book}
+use Rattle.bookform.specs.declared.Book.{Book}
 use Rattle.machine.specs.Machine.{State}
-use Rattle.book.specs.Books.{Lent}
+use Rattle.bookform.specs.Books.{Lent}
 use Rattle.book.specs.Calls.{Called}
-use Rattle.book.specs.Chains.{freshBook, freshMarks, Call, Chain, none, then, whole, records}
-use Rattle.book.specs.inner.Apply.{firmMarks, bothMarks, refusedWith, applied, marksApplied, previewApplied}
+use Rattle.bookform.specs.Books.{freshBook, freshMarks}
+use Rattle.book.specs.Chains.{Call, Chain, none, then, whole, records}
+use Rattle.renewing.specs.inner.Buffers.{firmMarks, bothMarks}
+use Rattle.answer.specs.inner.Answering.{refusedWith}
+use Rattle.requests.specs.inner.Apply.{applied, marksApplied, previewApplied}
 use Rattle.book.proofs.Keeping.{called-formed, called-unformed}
 use Rattle.demands.proofs.Reached.{Reached, fresh-reached, reached-after}
 

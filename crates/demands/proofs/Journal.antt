@@ -11,10 +11,11 @@ use Rattle.ranges.specs.Bytes.{byteAt, upto, principal, pack, tag, header}
 use Rattle.grants.specs.Grants.{readProperty, readPacked, readIssue, readConcl, readConds, readWith, readGrant}
 use Rattle.canon.specs.Canon.{canon}
 use Rattle.reader.specs.Records.{readEntry, readLicence, readQuery, readContent, kindWith, readMark, readRecord, readCanonical}
-use Rattle.book.specs.declared.Book.{Book}
+use Rattle.bookform.specs.declared.Book.{Book}
 use Rattle.machine.specs.Machine.{State, Verdict, changes, asks, refuses, Entry, start, member, insert, delete, act, step, feed}
-use Rattle.book.specs.Books.{Shows}
-use Rattle.book.specs.Chains.{freshBook, freshMarks, Call, Chain, whole, records, runs}
+use Rattle.book.specs.Shows.{Shows}
+use Rattle.bookform.specs.Books.{freshBook, freshMarks}
+use Rattle.book.specs.Chains.{Call, Chain, whole, records, runs}
 use Rattle.demands.proofs.Demand3.{demand-3}
 
 -- the seven records

@@ -23,8 +23,8 @@ use Rattle.reader.specs.Records.{Record, enter, remove, readEntry, readLicence,
 use Rattle.rules.specs.Rules.{resUnder, conclUnder, granted, issueMark, Values}
 use Rattle.rules.specs.Standing.{In, Bits}
 use Rattle.rules.proofs.Saturation.{same-marks, zeroes-none}
-use Rattle.book.specs.declared.Book.{Book}
-use Rattle.book.specs.declared.Answer.the-variants.{Permitted, NotPermitted}
+use Rattle.bookform.specs.declared.Book.{Book}
+use Rattle.answer.specs.declared.Answer.the-variants.{Permitted, NotPermitted}
 use Rattle.machine.specs.Machine.{State, Entry, Step, asks, start, member, insert, delete, act, step, feed}
 use Rattle.machine.specs.Closed.{Choice, grantAt, rowAt, StandsAs, Licensed, ClosedSet, Stands}
 use Rattle.machine.specs.Closed as closed
@@ -32,7 +32,8 @@ use Rattle.machine.specs.Choices.{AlwaysStands, NeverStands}
 use Rattle.machine.proofs.Apart.{kindOf, kinds-apart}
 use Rattle.marks.specs.Counts.{truths, sayings, ones, marksOf}
 use Rattle.machine.proofs.Sets.{member-cases, member-none}
-use Rattle.book.specs.Chains.{freshBook, freshMarks, Call, Chain, none, then, Fed, whole, records, runs}
+use Rattle.bookform.specs.Books.{freshBook, freshMarks}
+use Rattle.book.specs.Chains.{Call, Chain, none, then, Fed, whole, records, runs}
 use Rattle.demands.specs.Worth.{allGains, allLosses}
 use Rattle.demands.specs.Demands.{NoLoss, NoGain, OneWay, AllOneWay}
 use Rattle.demands.proofs.Balance.{ones-none, ones-zero, ones-kinds, kind-bits}

@@ -14,9 +14,10 @@ use Rattle.rows.proofs.Place.{has-lt}
 use Rattle.ranges.specs.Bytes.{Outcome, got, refused}
 use Rattle.reader.specs.Records.{Record, enter, remove, confirm, preview, query, readCanonical}
 use Rattle.rows.proofs.Appended.{Ext, ext-refl, ext-trans}
-use Rattle.book.specs.declared.Book.{Book}
+use Rattle.bookform.specs.declared.Book.{Book}
 use Rattle.machine.specs.Machine.{State, start, refuse, acted, step, feed}
-use Rattle.book.specs.Chains.{Call, Chain, freshBook, freshMarks, Fed, records, runs}
+use Rattle.bookform.specs.Books.{freshBook, freshMarks}
+use Rattle.book.specs.Chains.{Call, Chain, Fed, records, runs}
 use Rattle.demands.proofs.Moving.{Moved, moved}
 use Rattle.demands.proofs.Reached.{fresh-reached}
 use Rattle.demands.proofs.Demand3.{after}

@@ -26,13 +26,16 @@ use Rattle.reader.proofs.Record.{reads-within}
 use Rattle.exact.proofs.Content.{withdrawn, same-canonical, Previewing, licence, fault, preview-only}
 use Rattle.flags.specs.Changes.{thereFlags}
 use Rattle.marks.specs.declared.Counts.{Counts}
-use Rattle.book.specs.declared.Book.{Book}
-use Rattle.book.specs.declared.Answer.{Answer}
-use Rattle.book.specs.declared.Answer.the-variants.{Changed, Previewed, Refused}
-use Rattle.book.specs.declared.Answered.{Answered}
-use Rattle.book.specs.Books.{Lent}
+use Rattle.bookform.specs.declared.Book.{Book}
+use Rattle.answer.specs.declared.Answer.{Answer}
+use Rattle.answer.specs.declared.Answer.the-variants.{Changed, Previewed, Refused}
+use Rattle.answer.specs.declared.Answered.{Answered}
+use Rattle.bookform.specs.Books.{Lent}
 use Rattle.book.specs.Calls.{Called}
-use Rattle.book.specs.inner.Apply.{firmMarks, refusedWith, changedTo, previewedBy, removedBook, appliedTo, marksAppliedTo, previewAppliedTo, applied, marksApplied, previewApplied}
+use Rattle.renewing.specs.inner.Buffers.{firmMarks}
+use Rattle.answer.specs.inner.Answering.{refusedWith}
+use Rattle.revising.specs.inner.Revising.{changedTo, previewedBy, removedBook}
+use Rattle.requests.specs.inner.Apply.{appliedTo, marksAppliedTo, previewAppliedTo, applied, marksApplied, previewApplied}
 use Rattle.marks.specs.Counts.{Statements, changeIn}
 use Rattle.machine.specs.Machine.{State}
 use Rattle.book.specs.Chains.{Call}

@@ -25,13 +25,15 @@ use Rattle.flags.proofs.Both.{both-firm}
 use Rattle.machine.specs.Machine.{State, Step, Verdict, changes, previews, asks, refuses, refuse, start, step, feed, member}
 use Rattle.blocks.specs.Gains.{gains}
 use Rattle.marks.specs.Counts.{Statements, truths, sayings, ones, marksOf, changeOf, countsOf, changeIn}
-use Rattle.book.specs.declared.Book.{Book}
-use Rattle.book.specs.declared.Answer.{Answer}
-use Rattle.book.specs.declared.Answer.the-variants.{Permitted, Open, NotPermitted, Previewed, Refused}
-use Rattle.book.specs.declared.Answered.{Answered}
-use Rattle.book.specs.Books.{MarksForm, BookForm, Shows}
-use Rattle.book.specs.Calls.{answerAt, answerOf, marksAfter, secondAfter, previewAfter, Follows, Called}
-use Rattle.book.specs.Chains.{freshBook, freshMarks}
+use Rattle.bookform.specs.declared.Book.{Book}
+use Rattle.answer.specs.declared.Answer.{Answer}
+use Rattle.answer.specs.declared.Answer.the-variants.{Permitted, Open, NotPermitted, Previewed, Refused}
+use Rattle.answer.specs.declared.Answered.{Answered}
+use Rattle.bookform.specs.Books.{MarksForm, BookForm}
+use Rattle.book.specs.Shows.{Shows}
+use Rattle.answer.specs.Answers.{answerAt}
+use Rattle.book.specs.Calls.{answerOf, marksAfter, secondAfter, previewAfter, Follows, Called}
+use Rattle.bookform.specs.Books.{freshBook, freshMarks}
 use Rattle.book.proofs.Forms.{table-rows}
 use Rattle.demands.specs.Worth.{reported}
 use Rattle.demands.proofs.Balance.{balance, none-gained, kind-bits, kind-length, kind-above}

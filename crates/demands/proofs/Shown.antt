@@ -16,10 +16,11 @@ use Rattle.rows.specs.Form.{noGrant, rowsOut}
 use Rattle.rows.proofs.Bytes.{no-true}
 use Rattle.rows.proofs.Place.{has-in}
 use Rattle.rows.proofs.Shown as table
-use Rattle.book.specs.declared.Book.{Book}
+use Rattle.bookform.specs.declared.Book.{Book}
 use Rattle.machine.specs.Machine.{State, Entry, member}
 use Rattle.flags.specs.Changes.{bit}
-use Rattle.book.specs.Books.{BookForm, Shows}
+use Rattle.bookform.specs.Books.{BookForm}
+use Rattle.book.specs.Shows.{Shows}
 use Rattle.machine.proofs.Sets.{collect, collect-member, member-collect}
 
 -- a flag that is 0 or 1 is a test's bit

@@ -23,8 +23,9 @@ use Rattle.flags.specs.Both.{bothFlags}
 use Rattle.flags.proofs.Both.{both-keeps}
 use Rattle.machine.specs.Machine.{State}
 use Rattle.machine.specs.Closed.{grantAt}
-use Rattle.book.specs.declared.Book.{Book}
-use Rattle.book.specs.Books.{BookForm, Shows}
+use Rattle.bookform.specs.declared.Book.{Book}
+use Rattle.bookform.specs.Books.{BookForm}
+use Rattle.book.specs.Shows.{Shows}
 use Rattle.book.proofs.Forms.{table-rows}
 use Rattle.demands.proofs.RowBack.{shown-more}
 use Rattle.demands.proofs.Views.{View, firm, both, flagsIn, marksIn, Has}

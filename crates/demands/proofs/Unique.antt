@@ -12,10 +12,11 @@ use Rattle.sorts.specs.Flags.{rowFlags, flagPlace}
 use Rattle.sorts.proofs.Flags.{statusOf, status-flag, status-range}
 use Rattle.rows.proofs.Shown.{Shown}
 use Rattle.rows.proofs.Appended.{ext-refl}
-use Rattle.book.specs.declared.Book.{Book}
-use Rattle.book.specs.declared.Answered.{Answered}
+use Rattle.bookform.specs.declared.Book.{Book}
+use Rattle.answer.specs.declared.Answered.{Answered}
 use Rattle.machine.specs.Machine.{State, step}
-use Rattle.book.specs.Books.{BookForm, Lent, Shows}
+use Rattle.bookform.specs.Books.{BookForm, Lent}
+use Rattle.book.specs.Shows.{Shows}
 use Rattle.book.specs.Calls.{answerOf, marksAfter, secondAfter, Called}
 use Rattle.demands.proofs.ClosedBook.{shown}
 use Rattle.demands.proofs.RowBack.{shown-more}

@@ -11,7 +11,7 @@ use Rattle.rules.specs.Standing.{standing}
 use Rattle.flags.specs.Both.{bothFlags}
 use Rattle.machine.specs.Machine.{Entry, member, entry}
 use Rattle.machine.specs.Closed.{Choice, none, all}
-use Rattle.book.specs.declared.Book.{Book}
+use Rattle.bookform.specs.declared.Book.{Book}
 
 pub data View : Type 0 where
   firm : View

@@ -4,7 +4,7 @@ use mathlib.Core.Path.{_≡_}
 use mathlib.Core.List.{List, [], _∷_}
 use Rattle.ranges.specs.Bytes.{Outcome, got, refused}
 use Rattle.reader.specs.Records.{Record, readCanonical}
-use Rattle.book.specs.declared.Answer.{Answer}
+use Rattle.answer.specs.declared.Answer.{Answer}
 use Rattle.book.specs.Chains.{Call, Fed}
 
 -- What was read but for its length, which is as it was written.

@@ -14,17 +14,18 @@ use Rattle.reader.specs.Records.{Record, enter, remove, confirm, preview, query
 use Rattle.reader.specs.Requests.{fits}
 use Rattle.sorts.specs.declared.Prin.{Prin}
 use Rattle.sorts.specs.declared.Status.the-variants.{Issued, Provisional}
-use Rattle.book.specs.declared.Book.{Book}
-use Rattle.book.specs.declared.Answer.{Answer}
-use Rattle.book.specs.declared.Answer.the-variants.{Permitted, Open, NotPermitted, Changed, Previewed, Refused}
+use Rattle.bookform.specs.declared.Book.{Book}
+use Rattle.answer.specs.declared.Answer.{Answer}
+use Rattle.answer.specs.declared.Answer.the-variants.{Permitted, Open, NotPermitted, Changed, Previewed, Refused}
 use Rattle.marks.specs.declared.Counts.{Counts}
-use Rattle.book.specs.declared.Answered.{Answered}
+use Rattle.answer.specs.declared.Answered.{Answered}
 use Rattle.machine.specs.Machine.{State, changes, previews, asks, stands, there, start, step, feed}
 use Rattle.machine.specs.Closed.{none, all, Stands}
 use Rattle.machine.specs.Choices.{AlwaysStands, NeverStands, Undecided}
 use Rattle.blocks.specs.Gains.{gains}
 use Rattle.marks.specs.Counts.{Statements, ones, marksOf, countsOf, changeIn}
-use Rattle.book.specs.Books.{BookForm, Lent, Shows}
+use Rattle.bookform.specs.Books.{BookForm, Lent}
+use Rattle.book.specs.Shows.{Shows}
 use Rattle.book.specs.Calls.{answerOf, previewAfter}
 use Rattle.book.specs.Chains.{Call, records, runs}
 use Rattle.demands.specs.Worth.{worth, reported, allGains, allLosses}

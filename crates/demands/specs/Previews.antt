@@ -4,8 +4,8 @@ use mathlib.Core.Path.{_≡_}
 use mathlib.Core.List.{List, _∷_}
 use mathlib.Core.Logic.{_↔_}
 use Rattle.marks.specs.declared.Counts.{Counts}
-use Rattle.book.specs.declared.Answer.the-variants.{Changed, Previewed, Refused}
-use Rattle.book.specs.declared.Answered.{Answered}
+use Rattle.answer.specs.declared.Answer.the-variants.{Changed, Previewed, Refused}
+use Rattle.answer.specs.declared.Answered.{Answered}
 
 -- The letters PV and WD, and the same content after them.
 abbrev pub previewOf : List ℕ → List ℕ

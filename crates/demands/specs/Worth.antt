@@ -5,8 +5,8 @@ use mathlib.Core.Option.{Option, none, some}
 use lib.IntN.{pos}
 use Rattle.marks.specs.declared.Change.{Change}
 use Rattle.marks.specs.declared.Counts.{Counts}
-use Rattle.book.specs.declared.Answer.{Answer}
-use Rattle.book.specs.declared.Answer.the-variants.{Permitted, Open, NotPermitted, Changed, Previewed, Refused}
+use Rattle.answer.specs.declared.Answer.{Answer}
+use Rattle.answer.specs.declared.Answer.the-variants.{Permitted, Open, NotPermitted, Changed, Previewed, Refused}
 use Rattle.marks.specs.Counts.{Statements, changeIn}
 use Rattle.book.specs.Chains.{Call}
 

@@ -6,8 +6,8 @@ use Rattle.reader.specs.declared.records.Kind.{Kind}
 use Rattle.reader.specs.Records.{lettersOf}
 use Rattle.marks.specs.declared.Counts.{Counts}
 use Rattle.marks.specs.Counts.{ones}
-use Rattle.book.specs.declared.Answer.{Answer}
-use Rattle.book.specs.declared.Answer.the-variants as answer
+use Rattle.answer.specs.declared.Answer.{Answer}
+use Rattle.answer.specs.declared.Answer.the-variants as answer
 use Rattle.digits.specs.Decimals.{decimal}
 use Rattle.pieces.specs.Words.{space, newline, refusedWord, endWord, marksWord}
 use Rattle.lines.specs.declared.Line.the-variants as line

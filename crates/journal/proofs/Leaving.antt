@@ -4,10 +4,11 @@ use mathlib.Core.Path.{_≡_, sym, ap, _∙_, subst}
 use mathlib.Core.List.{List, [], _∷_}
 use native.Mathlib.Omega.{arith}
 use lib.ListN.{length, drop, length-drop, drop-of-length-le}
-use Rattle.book.specs.declared.Book.{Book}
-use Rattle.book.specs.declared.Answered.{Answered}
+use Rattle.bookform.specs.declared.Book.{Book}
+use Rattle.answer.specs.declared.Answered.{Answered}
 use Rattle.book.specs.Calls.{Called}
-use Rattle.book.specs.Chains.{Call, freshBook, freshMarks}
+use Rattle.bookform.specs.Books.{freshBook, freshMarks}
+use Rattle.book.specs.Chains.{Call}
 use Rattle.journal.specs.Journals.{Calls, ended, then, Leaves}
 use Rattle.places.specs.Places.{nextPlace}
 use Rattle.journal.proofs.Calling.{calls-only}

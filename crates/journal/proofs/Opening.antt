@@ -7,10 +7,10 @@ use native.Mathlib.Omega.{arith}
 use Rattle.reader.specs.declared.records.Kind.{Kind}
 use Rattle.ranges.specs.Bytes.{Outcome, got, refused}
 use Rattle.reader.specs.Records.{Record, readMark, readRecord, readCanonical}
-use Rattle.book.specs.declared.Book.{Book}
-use Rattle.book.specs.declared.Answered.{Answered}
-use Rattle.book.specs.declared.Answer.{Answer}
-use Rattle.book.specs.declared.Answer.the-variants.{Permitted, Open, NotPermitted, Changed, Previewed, Refused}
+use Rattle.bookform.specs.declared.Book.{Book}
+use Rattle.answer.specs.declared.Answered.{Answered}
+use Rattle.answer.specs.declared.Answer.{Answer}
+use Rattle.answer.specs.declared.Answer.the-variants.{Permitted, Open, NotPermitted, Changed, Previewed, Refused}
 use Rattle.machine.specs.Machine.{State, acted, step}
 use Rattle.book.specs.Calls.{answerOf, Called}
 use Rattle.demands.proofs.Shown.{shows-some}

@@ -3,10 +3,11 @@ use Prim.Native.Nat.{ℕ, _<_}
 use mathlib.Core.Path.{_≡_}
 use mathlib.Core.List.{List, [], _∷_}
 use lib.ListN.{length, drop}
-use Rattle.book.specs.declared.Book.{Book}
-use Rattle.book.specs.declared.Answered.{Answered}
+use Rattle.bookform.specs.declared.Book.{Book}
+use Rattle.answer.specs.declared.Answered.{Answered}
 use Rattle.book.specs.Calls.{Called}
-use Rattle.book.specs.Chains.{Call, freshBook, freshMarks}
+use Rattle.bookform.specs.Books.{freshBook, freshMarks}
+use Rattle.book.specs.Chains.{Call}
 use Rattle.lines.specs.Pieces.{Carries}
 use Rattle.places.specs.Places.{restAfter, nextPlace}
 use Rattle.journal.specs.declared.Stepped.{Stepped}

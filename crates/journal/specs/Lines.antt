@@ -7,8 +7,8 @@ use Rattle.ranges.specs.Bytes.{refused}
 use Rattle.reader.specs.Records.{readMark}
 use Rattle.marks.specs.declared.Counts.{Counts}
 use Rattle.marks.specs.Counts.{ones}
-use Rattle.book.specs.declared.Answer.{Answer}
-use Rattle.book.specs.declared.Answer.the-variants.{Permitted, Open, NotPermitted, Changed, Previewed, Refused}
+use Rattle.answer.specs.declared.Answer.{Answer}
+use Rattle.answer.specs.declared.Answer.the-variants.{Permitted, Open, NotPermitted, Changed, Previewed, Refused}
 use Rattle.digits.specs.Decimals.{decimal, signed}
 use Rattle.pieces.specs.Words.{space, newline, permitted, openWord, notPermitted, refusedWord, endWord, marksWord}
 use Rattle.lines.specs.declared.Said.{Said}

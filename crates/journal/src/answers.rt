@@ -1,5 +1,5 @@
 // The lines that tell of answers.
-use book::Answer;
+use answer::Answer;
 use lines::Line;
 use lines::Said;
 use marks::standing;

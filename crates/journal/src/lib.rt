@@ -1,13 +1,13 @@
 // The reading of a journal: its records, one after another, and the line of each.
 pub mod answers;
 
-use book::Answered;
-use book::Book;
+use answer::Answered;
+use bookform::Book;
 use lines::Line;
 ghost use mathlib.Core.Path.{_≡_};
 ghost use Prim.Native.Nat.{_≤_};
 ghost use lib.ListN.{length};
-ghost use Rattle.book.specs.Chains.{freshMarks};
+ghost use Rattle.bookform.specs.Books.{freshMarks};
 ghost use Rattle.journal.specs.Journals.{Steps, Leaves};
 
 // What the call on a record answered, the record's line, and where the next record starts.

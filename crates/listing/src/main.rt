@@ -1,5 +1,5 @@
 // Reads a journal from standard input, and writes the listing to standard output. What fails is told on standard error.
-use book::Book;
+use bookform::Book;
 use journal::answers;
 use libc::EINTR;
 use libc::STDERR_FILENO;
@@ -15,7 +15,7 @@ ghost use mathlib.Core.Path.{_≡_};
 ghost use mathlib.Core.List.{[]};
 ghost use Prim.Native.Nat.{_+_, _<_, _≤_};
 ghost use lib.ListN.{length, take, getD};
-ghost use Rattle.book.specs.Chains.{freshMarks};
+ghost use Rattle.bookform.specs.Books.{freshMarks};
 ghost use Rattle.io.specs.Counts.{Counts};
 ghost use Rattle.listings.specs.Listings.{Follows, Finished};
 ghost use Rattle.lines.specs.Pieces.{Next, linePieces};

@@ -21,11 +21,12 @@ use Rattle.exact.proofs.Exact.{record-exact}
 use Rattle.exact.proofs.CanonicalRecords.{canonical-got, canonical-refused}
 use Rattle.exact.proofs.Faults.{fault-range}
 use Rattle.rules.proofs.Standing.{standing-length}
-use Rattle.book.specs.declared.Book.{Book}
-use Rattle.book.specs.declared.Answer.the-variants.{Permitted, Open, NotPermitted}
-use Rattle.book.specs.declared.Answered.{Answered}
+use Rattle.bookform.specs.declared.Book.{Book}
+use Rattle.answer.specs.declared.Answer.the-variants.{Permitted, Open, NotPermitted}
+use Rattle.answer.specs.declared.Answered.{Answered}
 use Rattle.machine.specs.Machine.{State, Step, Verdict, changes, previews, asks, refuses, act, acted, step, stands, there}
-use Rattle.book.specs.Books.{Lent, Shows}
+use Rattle.bookform.specs.Books.{Lent}
+use Rattle.book.specs.Shows.{Shows}
 use Rattle.book.specs.Calls.{answerOf, previewAfter, Called}
 use Rattle.book.specs.Chains.{Call}
 use Rattle.journal.specs.Journals.{Calls, ended, then}

@@ -6,11 +6,12 @@ use native.Mathlib.Omega.{arith}
 use native.Mathlib.Decide.{ℕ-discrete, decLt}
 use lib.ListN.{length, getD, length-drop}
 use Rattle.sorts.specs.Numbers.{allMarks}
-use Rattle.book.specs.declared.Book.{Book}
+use Rattle.bookform.specs.declared.Book.{Book}
 use Rattle.machine.specs.Machine.{State, start}
-use Rattle.book.specs.Books.{Lent}
+use Rattle.bookform.specs.Books.{Lent}
 use Rattle.book.specs.Chains as chains
-use Rattle.book.specs.Chains.{Call, freshBook, freshMarks}
+use Rattle.bookform.specs.Books.{freshBook, freshMarks}
+use Rattle.book.specs.Chains.{Call}
 use Rattle.demands.specs.Demands.{Demand3}
 use Rattle.demands.proofs.Demand3.{demand-3}
 use Rattle.demands.proofs.Existence.{call-some, blank-preview}

@@ -6,9 +6,10 @@ use native.Mathlib.Omega.{arith}
 use lib.ListN.{length, drop, getD, length-drop, length-append, drop-of-length-le}
 use lib.Seq.{getD-append-seam}
 use Rattle.sorts.specs.Numbers.{allMarks}
-use Rattle.book.specs.declared.Book.{Book}
+use Rattle.bookform.specs.declared.Book.{Book}
 use Rattle.machine.specs.Machine.{State, start}
-use Rattle.book.specs.Chains.{Call, freshBook, freshMarks}
+use Rattle.bookform.specs.Books.{freshBook, freshMarks}
+use Rattle.book.specs.Chains.{Call}
 use Rattle.demands.proofs.Existence.{blank-preview}
 use Rattle.demands.proofs.Reached.{Reached, fresh-reached, reached-after}
 use Rattle.journal.specs.declared.Stepped.{Stepped}

@@ -18,13 +18,15 @@ use Rattle.reader.specs.Requests.{fits}
 use Rattle.exact.specs.Writing.{AllowedRecord}
 use Rattle.exact.proofs.Exact.{record-read}
 use Rattle.exact.proofs.CanonicalRecords.{canonical-of}
-use Rattle.book.specs.declared.Book.{Book}
-use Rattle.book.specs.declared.Answer.the-variants.{Permitted}
-use Rattle.book.specs.declared.Answered.{Answered}
+use Rattle.bookform.specs.declared.Book.{Book}
+use Rattle.answer.specs.declared.Answer.the-variants.{Permitted}
+use Rattle.answer.specs.declared.Answered.{Answered}
 use Rattle.machine.specs.Machine.{State, Step, asks, act, acted, step}
-use Rattle.book.specs.Books.{BookForm, Lent, Shows}
-use Rattle.book.specs.Calls.{answerAt, answerOf, Called}
-use Rattle.book.specs.Chains.{freshMarks}
+use Rattle.bookform.specs.Books.{BookForm, Lent}
+use Rattle.book.specs.Shows.{Shows}
+use Rattle.answer.specs.Answers.{answerAt}
+use Rattle.book.specs.Calls.{answerOf, Called}
+use Rattle.bookform.specs.Books.{freshMarks}
 use Rattle.demands.proofs.ClosedBook.{shown}
 use Rattle.demands.proofs.Existence.{call-some, blank-preview}
 use Rattle.demands.proofs.Shown.{shows-some}

@@ -9,10 +9,11 @@ use lib.ListN.{length, getD}
 use Rattle.sorts.specs.Numbers.{numberOf, speakers, packs}
 use Rattle.machine.specs.Machine.{State, Step, start, feed}
 use Rattle.machine.specs.Closed as closed
-use Rattle.book.specs.declared.Book.{Book}
-use Rattle.book.specs.declared.Answer.the-variants.{Permitted}
-use Rattle.book.specs.Calls.{answerAt}
-use Rattle.book.specs.Chains.{freshBook, freshMarks, Call, Chain, records, runs}
+use Rattle.bookform.specs.declared.Book.{Book}
+use Rattle.answer.specs.declared.Answer.the-variants.{Permitted}
+use Rattle.answer.specs.Answers.{answerAt}
+use Rattle.bookform.specs.Books.{freshBook, freshMarks}
+use Rattle.book.specs.Chains.{Call, Chain, records, runs}
 use Rattle.demands.specs.Demands.{Demand2}
 use Rattle.demands.proofs.Demand2.{demand-2, answer-yes, answer-maybe, answer-no}
 use Rattle.demands.proofs.Demand3.{demand-3}

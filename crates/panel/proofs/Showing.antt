@@ -9,11 +9,11 @@ use native.Mathlib.Decide.{decLt}
 use borrow.Author.Tests.{le-leb, lt-leb}
 use Rattle.sorts.specs.Decides.{Decides}
 use Rattle.sorts.specs.Numbers.{numberOf, speakers}
-use Rattle.book.specs.declared.Book.{Book}
-use Rattle.book.specs.declared.Answer.{Answer}
-use Rattle.book.specs.declared.Answer.the-variants.{Permitted, Open, NotPermitted, Changed, Previewed, Refused}
-use Rattle.book.specs.Books.{BookForm}
-use Rattle.book.specs.Calls.{answerAt}
+use Rattle.bookform.specs.declared.Book.{Book}
+use Rattle.answer.specs.declared.Answer.{Answer}
+use Rattle.answer.specs.declared.Answer.the-variants.{Permitted, Open, NotPermitted, Changed, Previewed, Refused}
+use Rattle.bookform.specs.Books.{BookForm}
+use Rattle.answer.specs.Answers.{answerAt}
 use Rattle.panel.specs.declared.PackRight.{PackRight}
 use Rattle.panel.specs.declared.PackRight.the-variants.{Run, Export}
 use Rattle.panel.specs.declared.Said.{Said}

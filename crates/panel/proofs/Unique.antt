@@ -7,8 +7,8 @@ use native.Mathlib.Nat.{zero-lt-suc, div-div-eq-div-mul, pow-succ'}
 use native.Mathlib.Omega.{arith}
 use native.Mathlib.Decide.{ℕ-discrete, decLt}
 use Rattle.sorts.specs.Numbers.{speakers, packs}
-use Rattle.book.specs.declared.Book.{Book}
-use Rattle.book.specs.Books.{BookForm}
+use Rattle.bookform.specs.declared.Book.{Book}
+use Rattle.bookform.specs.Books.{BookForm}
 use Rattle.panel.specs.declared.PackRight.{PackRight}
 use Rattle.panel.specs.declared.Panel.{Panel}
 use Rattle.panel.specs.Panels.{bit, Packs, PanelOf}

@@ -6,9 +6,9 @@ use native.Mathlib.Nat.{not-suc-le-zero, le-of-suc-le-suc, lt-of-lt-of-le, div-e
 use native.Mathlib.Omega.{arith}
 use lib.Pow.{pow-mono}
 use Rattle.sorts.specs.Numbers.{numberOf, packs}
-use Rattle.book.specs.declared.Answer.{Answer}
-use Rattle.book.specs.declared.Answer.the-variants.{Permitted, Open, NotPermitted, Changed, Previewed, Refused}
-use Rattle.book.specs.Calls.{answerAt}
+use Rattle.answer.specs.declared.Answer.{Answer}
+use Rattle.answer.specs.declared.Answer.the-variants.{Permitted, Open, NotPermitted, Changed, Previewed, Refused}
+use Rattle.answer.specs.Answers.{answerAt}
 use Rattle.panel.specs.declared.PackRight.{PackRight}
 use Rattle.panel.specs.Panels.{conclusionOf, bit}
 use Rattle.panel.specs.inner.Words.{oneFor, packBit, WordFrom, WordOf}

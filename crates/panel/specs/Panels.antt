@@ -11,13 +11,13 @@ use Rattle.rows.specs.Written.{perm, run, export}
 use Rattle.rows.specs.Form.{conclOf}
 use Rattle.reader.specs.Records.{query}
 use Rattle.exact.specs.Writing.{writtenRecord}
-use Rattle.book.specs.declared.Book.{Book}
-use Rattle.book.specs.declared.Answer.the-variants.{Permitted}
-use Rattle.book.specs.declared.Answered.{Answered}
+use Rattle.bookform.specs.declared.Book.{Book}
+use Rattle.answer.specs.declared.Answer.the-variants.{Permitted}
+use Rattle.answer.specs.declared.Answered.{Answered}
 use Rattle.machine.specs.Machine.{State}
 use Rattle.machine.specs.Closed.{Choice, Lacking}
 use Rattle.machine.specs.Choices.{AlwaysStands}
-use Rattle.book.specs.Books.{BookForm}
+use Rattle.bookform.specs.Books.{BookForm}
 use Rattle.book.specs.Calls.{Called}
 use Rattle.panel.specs.declared.PackRight.{PackRight}
 use Rattle.panel.specs.declared.PackRight.the-variants.{Run, Export}

@@ -1,7 +1,6 @@
 // The run panel of a bench: the packs that a principal may run, and those that it may export.
-use book::Answer;
-use book::Book;
-use book::book_form;
+use answer::Answer;
+use bookform::Book;
 use sorts::Concl;
 use sorts::Pack;
 use sorts::Prin;
@@ -11,7 +10,7 @@ ghost use mathlib.Core.Path.{_≡_};
 ghost use Prim.Native.Nat.{_<_};
 ghost use lib.ListN.{length};
 ghost use Rattle.sorts.specs.Numbers.{numberOf, speakers, packs, allMarks};
-ghost use Rattle.book.specs.Calls.{answerAt};
+ghost use Rattle.answer.specs.Answers.{answerAt};
 ghost use Rattle.panel.specs.Panels.{conclusionOf, refusedWith, PanelOf};
 ghost use Rattle.panel.specs.inner.Words.{oneFor, saidOf, WordOf};
 
@@ -50,7 +49,7 @@ fn one(c: Concl, marks: &[u8], second: &[u8]) -> u32
     requires { ⌜ (numberOf c < length (now marks)) × (numberOf c < length (now second)) ⌝ }
     ensures { λ r. ⌜ r ≡ oneFor (answerAt (now (marks .entry)) (now (second .entry)) (numberOf c)) ⌝ }
 {
-    let a = book::answer_for(c, marks, second);
+    let a = answer::answer_for(c, marks, second);
     match a {
         Answer::Permitted => 1,
         Answer::Open => 0,
@@ -103,7 +102,7 @@ fn refused(k: u8) -> Panel
 pub fn show(b: Book, marks: &[u8], second: &[u8], p: u8) -> Panel
     ensures { λ r. ⌜ PanelOf b (now (marks .entry)) (now (second .entry)) p r ⌝ }
 {
-    let said = verdict(book_form::in_form(b, marks, second), p);
+    let said = verdict(bookform::in_form(b, marks, second), p);
     match said {
         Said::Refused(k) => refused(k),
         Said::Shown => Panel {

@@ -5,7 +5,7 @@ use mathlib.Core.Path.{_≡_, refl, sym, subst}
 use mathlib.Core.List.{List}
 use native.Mathlib.Omega.{arith}
 use Rattle.sorts.specs.Numbers.{speakers}
-use Rattle.book.specs.declared.Book.{Book}
+use Rattle.bookform.specs.declared.Book.{Book}
 use Rattle.machine.specs.Machine.{start}
 use Rattle.book.specs.Chains.{records, runs}
 use Rattle.journal.specs.Journals.{Leaves}

@@ -3,8 +3,8 @@ use Prim.Native.Nat.{ℕ, _/_, _%_, _≤_, _<_}
 use mathlib.Core.Path.{_≡_}
 use mathlib.Core.List.{List, [], _∷_, _++_}
 use lib.ListN.{length}
-use Rattle.book.specs.declared.Book.{Book}
-use Rattle.book.specs.Chains.{freshMarks}
+use Rattle.bookform.specs.declared.Book.{Book}
+use Rattle.bookform.specs.Books.{freshMarks}
 use Rattle.journal.specs.Journals.{Leaves}
 use Rattle.panel.specs.declared.Panel.{Panel}
 use Rattle.panel.specs.Panels.{numberSaid, refusedWith, PanelOf}

@@ -6,7 +6,7 @@ use sorts::Refusal;
 ghost use mathlib.Core.Path.{_≡_};
 ghost use mathlib.Core.List.{_++_};
 ghost use Prim.Native.Nat.{_/_, _%_, _<_};
-ghost use Rattle.book.specs.Chains.{freshMarks};
+ghost use Rattle.bookform.specs.Books.{freshMarks};
 ghost use Rattle.panel.specs.Panels.{numberSaid};
 ghost use Rattle.panel_boundary.specs.Crossing.{bytesOf, JournalPanel, Crossed, JournalPreview};
 

@@ -18,14 +18,15 @@ use Rattle.reader.specs.Records.{Record, enter, remove, confirm, preview, query
 use Rattle.reader.specs.Requests.{fits}
 use Rattle.exact.specs.Writing.{AllowedRecord}
 use Rattle.exact.proofs.CanonicalRecords.{canonical-exact}
-use Rattle.book.specs.declared.Book.{Book}
-use Rattle.book.specs.declared.Answered.{Answered}
+use Rattle.bookform.specs.declared.Book.{Book}
+use Rattle.answer.specs.declared.Answered.{Answered}
 use Rattle.machine.specs.Machine.{State, Step, Verdict, changes, previews, asks, refuses, refuse, start, act, acted, step, feed, stands, there}
 use Rattle.machine.specs.Closed.{none, all, Stands, Lacking}
 use Rattle.machine.specs.Choices.{AlwaysStands, NeverStands, Undecided}
 use Rattle.machine.proofs.Choices.{stands-more, lacking-fewer, permitted-none, not-permitted-all, open-both}
 use Rattle.book.specs.Calls.{Called}
-use Rattle.book.specs.Chains.{freshBook, freshMarks, Call, Chain, Fed, records, runs}
+use Rattle.bookform.specs.Books.{freshBook, freshMarks}
+use Rattle.book.specs.Chains.{Call, Chain, Fed, records, runs}
 use Rattle.book.proofs.Forms.{concl-closed}
 use Rattle.demands.proofs.Reached.{fresh-reached, reached-after}
 use Rattle.demands.proofs.Demand2.{demand-2}

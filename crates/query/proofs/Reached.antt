@@ -6,10 +6,12 @@ use native.Mathlib.Omega.{arith}
 use native.Mathlib.Decide.{ℕ-discrete}
 use Rattle.sorts.specs.Numbers.{allMarks}
 use Rattle.sorts.specs.RowForm.{RowForm}
-use Rattle.book.specs.declared.Book.{Book}
+use Rattle.bookform.specs.declared.Book.{Book}
 use Rattle.machine.specs.Machine.{State, Step, start, feed}
-use Rattle.book.specs.Books.{BookForm, Shows}
-use Rattle.book.specs.Chains.{freshMarks, Fed, runs}
+use Rattle.bookform.specs.Books.{BookForm}
+use Rattle.book.specs.Shows.{Shows}
+use Rattle.bookform.specs.Books.{freshMarks}
+use Rattle.book.specs.Chains.{Fed, runs}
 use Rattle.book.proofs.Forms.{table-rows}
 use Rattle.demands.proofs.RowBack.{shown-row}
 use Rattle.demands.proofs.ClosedBook.{shown}

@@ -8,8 +8,8 @@ use Rattle.sorts.specs.Numbers.{saidMark, conclusions}
 use Rattle.rules.specs.Standing.{All}
 use Rattle.machine.specs.Machine.{State}
 use Rattle.machine.specs.Closed.{Choice, ClosedSet, Stands, Lacking}
-use Rattle.book.specs.declared.Answer.{Answer}
-use Rattle.book.specs.declared.Answer.the-variants.{Permitted, Open, NotPermitted}
+use Rattle.answer.specs.declared.Answer.{Answer}
+use Rattle.answer.specs.declared.Answer.the-variants.{Permitted, Open, NotPermitted}
 use Rattle.query.specs.Figures.{Chosen, Said, Condition, holds2}
 use Rattle.query.specs.Query.{InTruth, InSaid, Single, sayings, saidWithin, queryWithin, implied, holds}
 

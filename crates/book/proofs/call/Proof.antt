@@ -1,5 +1,5 @@
-use Rattle.book.specs.Books.{BookForm}
-use Rattle.book.proofs.Decided.{decided-no, decided-yes}
+use Rattle.bookform.specs.Books.{BookForm}
+use Rattle.bookform.proofs.Decided.{decided-no, decided-yes}
 use Rattle.book.proofs.Keeping.{called-unformed, called-formed}
 use Rattle.book.proofs.Following.{ready}
 use borrow.Author.Needs.{needs}
@@ -7,9 +7,9 @@ use Rattle.book.proofs.call.Statement.{statement}
 use Rattle.book.proofs.call.Tie as tie
 use Rattle.book.proofs.call.Reads as reads
 use Rattle.book.proofs.call.Lts as lts
-use Rattle.book.proofs.apply.Reads as apply-reads
-use Rattle.book.proofs.book_form.in_form.Reads as in-form-reads
-use Rattle.book.proofs.refuse.Reads as refuse-reads
+use Rattle.requests.proofs.apply.Reads as apply-reads
+use Rattle.bookform.proofs.in_form.Reads as in-form-reads
+use Rattle.answer.proofs.refuse.Reads as refuse-reads
 use Rattle.reader.proofs.records.read_record.Reads as read-record-reads
 
 -- src/lib.rt:290:9

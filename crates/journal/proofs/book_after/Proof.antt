@@ -10,7 +10,7 @@ use Rattle.journal.proofs.book_after.Statement.{statement}
 use Rattle.journal.proofs.book_after.Tie as tie
 use Rattle.journal.proofs.book_after.Reads as reads
 use Rattle.journal.proofs.book_after.Lts as lts
-use Rattle.book.proofs.Book.new.Reads as new-reads
+use Rattle.bookform.proofs.Book.new.Reads as new-reads
 use Rattle.book.proofs.call.Reads as call-reads
 use Rattle.places.proofs.next_place.Reads as next-place-reads
 

@@ -9,7 +9,7 @@ use Rattle.listing.proofs.list_records.Statement.{statement}
 use Rattle.listing.proofs.list_records.Tie as tie
 use Rattle.listing.proofs.list_records.Reads as reads
 use Rattle.listing.proofs.list_records.Lts as lts
-use Rattle.book.proofs.Book.new.Reads as new-reads
+use Rattle.bookform.proofs.Book.new.Reads as new-reads
 use Rattle.journal.proofs.answers.end_line.Reads as end-line-reads
 use Rattle.journal.proofs.step.Reads as step-reads
 use Rattle.listing.proofs.write.Reads as write-reads

@@ -1,5 +1,5 @@
 use mathlib.Core.Path.{refl}
-use Rattle.book.specs.Chains.{freshMarks}
+use Rattle.bookform.specs.Books.{freshMarks}
 use borrow.Author.Needs.{needs}
 use Rattle.listing.proofs.main.Statement.{statement}
 use Rattle.listing.proofs.main.Tie as tie

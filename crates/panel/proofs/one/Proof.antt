@@ -5,7 +5,7 @@ use Rattle.panel.proofs.one.Statement.{statement}
 use Rattle.panel.proofs.one.Tie as tie
 use Rattle.panel.proofs.one.Reads as reads
 use Rattle.panel.proofs.one.Lts as lts
-use Rattle.book.proofs.answer_for.Reads as answer-for-reads
+use Rattle.answer.proofs.answer_for.Reads as answer-for-reads
 
 -- src/lib.rt:53:9
 answer-for-requires : tie.Need-answer-for-requires

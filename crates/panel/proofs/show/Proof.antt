@@ -5,7 +5,7 @@ use Rattle.panel.proofs.show.Statement.{statement}
 use Rattle.panel.proofs.show.Tie as tie
 use Rattle.panel.proofs.show.Reads as reads
 use Rattle.panel.proofs.show.Lts as lts
-use Rattle.book.proofs.book_form.in_form.Reads as in-form-reads
+use Rattle.bookform.proofs.in_form.Reads as in-form-reads
 use Rattle.panel.proofs.refused.Reads as refused-reads
 use Rattle.panel.proofs.verdict.Reads as verdict-reads
 use Rattle.panel.proofs.word.Reads as word-reads

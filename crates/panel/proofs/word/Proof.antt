@@ -4,7 +4,7 @@ use native.Mathlib.Omega.{arith}
 use borrow.Author.Needs.{needs}
 use Rattle.sorts.specs.declared.Concl.{Concl}
 use Rattle.sorts.specs.Numbers.{numberOf, packs}
-use Rattle.book.specs.Calls.{answerAt}
+use Rattle.answer.specs.Answers.{answerAt}
 use Rattle.panel.specs.inner.Words.{oneFor, WordFrom}
 use Rattle.panel.proofs.Words.{one-small, word-none, word-next, word-room, word-whole}
 use Rattle.panel.proofs.word.Statement.{statement}

@@ -2,7 +2,7 @@ use mathlib.Core.Path.{sym, subst, ap, _∙_}
 use mathlib.Core.List.{_++_}
 use Rattle.journal.specs.Lines.{said}
 use Rattle.pieces.specs.Words.{newline}
-use Rattle.book.specs.declared.Answer.{Answer}
+use Rattle.answer.specs.declared.Answer.{Answer}
 use Rattle.journal.specs.Lines.{Opened}
 use Rattle.journal.proofs.Joining.{permitted-joined, open-joined, not-permitted-joined, changed-joined, previewed-joined, refusal-joined}
 use borrow.Author.Needs.{needs}
