@@ -4,26 +4,26 @@ use mathlib.Core.Path.{_≡_, refl, sym, subst, ap, _∙_}
 use mathlib.Core.Bool.{Bool, true, false, not, cond}
 use mathlib.Core.List.{List, [], _∷_}
 use mathlib.Core.Logic.{_⊎_, inl, inr, ⊎-elim}
-use Prim.Native.Nat.{ℕ, zero, suc, _<_}
+use Prim.Native.Nat.{ℕ, zero, suc, _≤_, _<_}
 use native.Mathlib.Nat.{not-suc-le-zero, le-of-suc-le-suc}
 use native.Mathlib.Omega.{arith}
-use lib.Dec.{T, eqb, ltb, eqb→eq, eqb-refl, ltb→lt, T-not}
+use lib.Dec.{T, eqb, ltb, eqb→eq, eqb-refl, ltb→lt, leb→le, T-not}
 use lib.ListN.{length, getD, set, length-set}
 use lib.Seq.{getD-set-same, take-set-le, drop-set-lt}
 use borrow.Author.Tests.{ltb-true, ltb-false}
-use Rattle.sorts.specs.Numbers.{conclusions, allMarks}
-use Rattle.rules.specs.Standing.{All, Some, Rule, ClosedRules, In, Bits, ground, blank}
+use Rattle.sorts.specs.Numbers.{conclusions, allMarks, grants}
+use Rattle.rules.specs.Standing.{All, Some, Rule, ClosedRules, In, Bits, blank}
 use Rattle.rules.proofs.Lists.{met-map}
 use Rattle.rules.proofs.Saturation.{in-set, in-set-cases, bits-set, same-marks}
-use Rattle.rules.proofs.Ground.{closed-ground}
 use Rattle.rules.proofs.Standing.{blank-length, blank-bits, blank-none}
+use Rattle.reader.specs.Requests.{fits}
 use Rattle.machine.specs.Machine.{State}
 use Rattle.machine.specs.Closed.{ClosedSet, Stands, Lacking}
 use Rattle.marks.specs.Counts.{Statements, truths, sayings, ones, marksOf as kindMarks}
 use Rattle.demands.proofs.Views.{View, firm, choiceOf}
 use Rattle.demands.proofs.Balance.{ones-none, ones-kinds}
 use Rattle.worked.specs.Worked.{MarksOf}
-use Rattle.worked.proofs.Listed.{rowsOf, flagsOf, closed-same}
+use Rattle.worked.proofs.Listed.{rulesOf, closed-listed}
 
 -- Tests joined.
 
@@ -263,21 +263,27 @@ kinds-marks rs (n ∷ ns) t =
 -- Where the rules of a state pass the test, with the firm licences alone or with the provisional ones taken as firm, the listed
 -- statements are those that stand under that choice.
 abbrev pub certified : State → View → List ℕ → Bool
-certified M v ns = test (ground (rowsOf M) (flagsOf M v)) ns
+certified M v ns = both (fits (M .N)) (test (rulesOf M v) ns)
 
 module _ (M : State) (v : View) (ns : List ℕ) (passed : T (certified M v ns)) where
   abbrev rs : List Rule
-  rs = ground (rowsOf M) (flagsOf M v)
+  rs = rulesOf M v
+
+  small : length (M .N) ≤ grants
+  small = leb→le (length (M .N)) grants (left (fits (M .N)) (test rs ns) passed)
+
+  tested : T (test rs ns)
+  tested = right (fits (M .N)) (test rs ns) passed
 
   order : T (orderb rs ns)
-  order = right (closedb rs ns) (orderb rs ns) passed
+  order = right (closedb rs ns) (orderb rs ns) tested
 
   closed : ClosedSet M (choiceOf v) (Listed ns)
-  closed = closed-same M v (Listed ns) .0 (closed-ground (rowsOf M) (flagsOf M v) (Listed ns) .1 (closed-of rs ns (left (closedb rs ns) (orderb rs ns) passed)))
+  closed = closed-listed M v (Listed ns) small .1 (closed-of rs ns (left (closedb rs ns) (orderb rs ns) tested))
 
   -- a listed statement is in every closed set
   pub present : (n : ℕ) → Listed ns n → Stands M (choiceOf v) n
-  present n h S c = order-of S rs ns (closed-ground (rowsOf M) (flagsOf M v) S .0 (closed-same M v S .1 c)) order n h
+  present n h S c = order-of S rs ns (closed-listed M v S small .0 c) order n h
 
   -- the listed statements are a closed set, which lacks the others
   pub missing : (n : ℕ) → T (not (memb n ns)) → Lacking M (choiceOf v) n

@@ -8,7 +8,7 @@ use Rattle.canon.specs.Canon.{order, condBytes, orderCond, canon, insert as put
 use Rattle.reader.specs.Records.{readEntry, readLicence, readQuery, readContent, kindWith, readMark, readRecord, readCanonical}
 use Rattle.exact.specs.Writing.{writtenRecord}
 use Rattle.rules.specs.Rules.{resUnder, conclUnder, granted, condition}
-use Rattle.rules.specs.Standing.{needsOf, fired, at, atXY, atX, ofRow, ground}
+use Rattle.rules.specs.Standing.{needsOf, fired, at, atXY, atX, ofRow}
 use Rattle.machine.specs.Machine.{member, insert, delete, act, step, feed}
 use Rattle.book.specs.Chains.{runs}
 use Rattle.worked.specs.Worked.{P1, P2, P3, P4, P5, P6, P6-added, P7, P8, P9, P9-withdrawn, P10, turned, table}
@@ -32,5 +32,5 @@ rowed = tt
 
 -- the rules of these rows
 unfoldable pub grounded : Unit {0}
-unfolding condition needsOf fired at atXY atX ofRow ground
+unfolding condition needsOf fired at atXY atX ofRow
 grounded = tt

@@ -1,6 +1,6 @@
 -- The rows and flags of a state as lists, as far as its grants are numbered, with the firm licences alone or with the provisional ones
 -- taken as firm: the same sets are closed under them.
-use Prim.Native.Nat.{ℕ, zero, suc, _+_, _*_, _<_}
+use Prim.Native.Nat.{ℕ, zero, suc, _+_, _*_, _≤_, _<_}
 use mathlib.Core.Path.{_≡_, refl, sym, ap, _∙_}
 use mathlib.Core.List.{List, [], _∷_, _++_, map}
 use mathlib.Core.Bool.{Bool, true, false, _||_}
@@ -14,13 +14,16 @@ use Rattle.sorts.specs.declared.Row.{Row}
 use Rattle.sorts.specs.declared.Status.{Status}
 use Rattle.sorts.specs.declared.Status.the-variants.{Trusted, Issued, Provisional}
 use Rattle.sorts.specs.Blank.{noRow}
+use Rattle.sorts.specs.Numbers.{speakers, grants}
 use Rattle.sorts.specs.Flags.{StatusRange, rowFlags, flagOf, flag}
 use Rattle.sorts.proofs.Flags.{flag-high, statusOf, status-of}
 use Rattle.rows.specs.Written.{Grant}
 use Rattle.rows.specs.Form.{noGrant, rowOf}
 use Rattle.rules.specs.Rules as rules
-use Rattle.rules.specs.Rules.{Set, Closed}
-use Rattle.rules.proofs.Ground.{closed-fewer}
+use Rattle.rules.specs.Rules.{Set, Closed, Values, granted, firstValues, secondValues, resourceValues}
+use Rattle.rules.specs.Standing.{Rule, Kept, ClosedRules, each, on, needsOf, spoken, spokenAt, trusted, fired, at, atXY, atX, ofRow, ground}
+use Rattle.rules.proofs.Lists.{each-all, all-each, on-all, all-join}
+use Rattle.rules.proofs.Ground.{ground-at, closed-ground, closed-fewer}
 use Rattle.flags.specs.Changes.{bit}
 use Rattle.machine.specs.Machine.{Entry, State, member, entry}
 use Rattle.machine.specs.Closed.{grantAt, rowAt, StandsAs, all, Licensed, ClosedSet}
@@ -89,6 +92,14 @@ rowsOf M = map (rowOf (M .N)) (M .N)
 abbrev pub flagsOf : State → View → List ℕ
 flagsOf M v = flagsIn v (M .entries) (M .N)
 
+-- the rules of the first n grants
+abbrev pub firstRules : ℕ → List Row → List ℕ → List Rule
+firstRules n rows flags = each n (λ g. ofRow flags g (rules.rowAt rows g))
+
+-- those of the numbered grants
+abbrev pub rulesOf : State → View → List Rule
+rulesOf M v = firstRules (length (M .N)) (rowsOf M) (flagsOf M v)
+
 module _ (M : State) where
   -- a licence counts where it is firm, or provisional and taken as firm
 
@@ -134,10 +145,51 @@ module _ (M : State) where
         go (no l) = absurd (d (List·getD-eq-default (flagsOf M v) 0 (omega (arith, flags-length v (M .entries) (M .N), l))))
 
     -- the same sets are closed
-    pub closed-same : (S : ℕ → Type 0) → Closed (rowsOf M) (flagsOf M v) S ↔ ClosedSet M (choiceOf v) S
+    closed-same : (S : ℕ → Type 0) → Closed (rowsOf M) (flagsOf M v) S ↔ ClosedSet M (choiceOf v) S
     closed-same S = (
       closed-fewer (rules.rowAt (rowsOf M)) (rowAt M) (λ p g. Set (flagsOf M v) (issued p) g) (Licensed M (choiceOf v)) (λ g. Set (flagsOf M v) Trusted g) (λ g. StandsAs M Trusted g) S
           (λ g p l k h. let q = licensed-counts v p g h in (counts-flag (issued p) g k q, row-is g (q .0))) (λ g l h. (counts-flag Trusted g tt h, row-is g (h .0))),
       closed-fewer (rowAt M) (rules.rowAt (rowsOf M)) (Licensed M (choiceOf v)) (λ p g. Set (flagsOf M v) (issued p) g) (λ g. StandsAs M Trusted g) (λ g. Set (flagsOf M v) Trusted g) S
           (λ g p l k h. let q = flag-counts (issued p) g k h in (counts-licensed v p g q, sym (row-is g (q .0)))) (λ g l h. let q = flag-counts Trusted g tt h in (q, sym (row-is g (q .0)))),
     )
+
+    -- and they are those closed under the rules of the numbered grants: no other grant has a flag
+
+    abbrev row : ℕ → Row
+    row = rules.rowAt (rowsOf M)
+
+    module _ (S : ℕ → Type 0) where
+      numbered : ClosedRules (rulesOf M v) S → (g x y z : ℕ) → g < length (M .N) → Values row g x y z → ClosedRules (at (flagsOf M v) g (row g) x y z) S
+      unfolding ofRow atX atXY
+      numbered c g x y z l w =
+          all-each (Kept S) (resourceValues (row g .res)) (λ z′. at (flagsOf M v) g (row g) x y z′)
+          (all-each (Kept S) (secondValues (row g .prins)) (λ y′. atXY (flagsOf M v) g (row g) x y′)
+          (all-each (Kept S) (firstValues (row g .prins)) (λ x′. atX (flagsOf M v) g (row g) x′)
+          (all-each (Kept S) (length (M .N)) (λ g′. ofRow (flagsOf M v) g′ (row g′)) c g l) x (w .first)) y (w .second)) z (w .resource)
+
+      unnumbered : (g x y z : ℕ) → (g < length (M .N) → ⊥) → ClosedRules (at (flagsOf M v) g (row g) x y z) S
+      unfolding at fired
+      unnumbered g x y z l =
+          let ns = needsOf (row g) x y z in
+          let k = granted (row g) x y z in
+          all-join (Kept S) (each speakers (spokenAt (flagsOf M v) g ns k)) (on (flag (flagsOf M v) Trusted g) (trusted ns k))
+          (each-all (Kept S) speakers (spokenAt (flagsOf M v) g ns k) (λ p h. on-all (Kept S) (flag (flagsOf M v) (issued p) g) (spoken ns g p k) (λ s. absurd (l (flag-counts (issued p) g h s .0)))))
+          (on-all (Kept S) (flag (flagsOf M v) Trusted g) (trusted ns k) (λ s. absurd (l (flag-counts Trusted g tt s .0))))
+
+      closed-rules : length (M .N) ≤ grants → ClosedRules (ground (rowsOf M) (flagsOf M v)) S ↔ ClosedRules (rulesOf M v) S
+      unfolding ground
+      closed-rules small = (
+        λ c. each-all (Kept S) (length (M .N)) (λ g. ofRow (flagsOf M v) g (row g)) (λ g l. all-each (Kept S) grants (λ g. ofRow (flagsOf M v) g (row g)) c g (omega (arith, l, small))),
+        λ c. ground-at (rowsOf M) (flagsOf M v) S (λ g x y z w. go c g x y z w (decLt g (length (M .N)))),
+      )
+        where
+          go : ClosedRules (rulesOf M v) S → (g x y z : ℕ) → Values row g x y z → Dec (g < length (M .N)) → ClosedRules (at (flagsOf M v) g (row g) x y z) S
+          go c g x y z w (yes l) = numbered c g x y z l w
+          go c g x y z w (no l) = unnumbered g x y z l
+
+      -- so a set is closed where it is closed under these rules
+      pub closed-listed : length (M .N) ≤ grants → ClosedSet M (choiceOf v) S ↔ ClosedRules (rulesOf M v) S
+      closed-listed small = (
+        λ c. closed-rules small .0 (closed-ground (rowsOf M) (flagsOf M v) S .0 (closed-same S .1 c)),
+        λ c. closed-same S .0 (closed-ground (rowsOf M) (flagsOf M v) S .1 (closed-rules small .1 c)),
+      )
