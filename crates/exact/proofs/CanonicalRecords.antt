@@ -6,7 +6,8 @@ use native.Mathlib.Omega.{arith}
 use lib.ListN.{length, length-append}
 use Rattle.sorts.specs.declared.Status.the-variants.{Trusted, Issued, Provisional}
 use Rattle.ranges.specs.Bytes.{Outcome, got, refused, andThen}
-use Rattle.reader.specs.Records.{Record, enter, remove, confirm, preview, query, readRecord, lettersOf, canonRecord, readCanonical}
+use Rattle.reader.specs.Records.{Record, enter, remove, confirm, preview, query, readRecord, canonRecord, readCanonical}
+use Rattle.exact.proofs.Framing.{in-frame-length}
 use Rattle.exact.specs.Writing.{kindOf, writtenStatus, contentOf, writtenRecord, AllowedRecord}
 use Rattle.exact.proofs.Exact.{record-read, record-exact}
 use Rattle.rows.specs.Written.{Grant, written}
@@ -74,8 +75,7 @@ content-shorter (query c) = size.concl-length c
 pub record-shorter : (r : Record) → length (writtenRecord (canonRecord r)) ≤ length (writtenRecord r)
 unfolding writtenRecord
 record-shorter r =
-    let k = ap (λ (x : _). length (lettersOf x)) (record-kind r) in
-    omega (arith, length-append (lettersOf (kindOf (canonRecord r))) (contentOf (canonRecord r)), length-append (lettersOf (kindOf r)) (contentOf r), content-shorter r)
+    omega (arith, in-frame-length (kindOf (canonRecord r)) (contentOf (canonRecord r)), in-frame-length (kindOf r) (contentOf r), content-shorter r)
 
 -- the reader over the bytes of a record's form reads the form, whatever follows
 pub record-form-reads : (s : List ℕ) (r : Record) (n : ℕ) → readRecord s ≡ got r n → (y : List ℕ) → readRecord (writtenRecord (canonRecord r) ++ y) ≡ got (canonRecord r) (length (writtenRecord (canonRecord r)))

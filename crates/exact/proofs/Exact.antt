@@ -1,131 +1,115 @@
 -- The reader of records is exact: what it read are the bytes it read, and reading what was written gives it back.
-use Prim.Native.Nat.{ℕ, _+_, _≤_, _<_, _-_}
-use mathlib.Core.Path.{_≡_, refl}
-use mathlib.Core.List.{List, [], _∷_, _++_}
+use Prim.Native.Nat.{ℕ, _+_, _/_, _%_, _≤_, _<_}
+use mathlib.Core.Path.{_≡_, refl, sym, ap, subst, _∙_}
+use mathlib.Core.Bool.{Bool, true, false, cond}
+use mathlib.Core.List.{List, [], _∷_, _++_, append-nil}
 use native.Mathlib.Omega.{arith}
-use lib.ListN.{length, take}
-use Rattle.sorts.specs.declared.Prin.{Prin}
+use lib.ListN.{length, getD, take, drop, length-append}
+use lib.Seq.{take-at, drop-length}
+use lib.Dec.{eqb}
+use borrow.Author.Tests.{eqb-true}
+use Rattle.frames.specs.declared.Kind.{Kind}
 use Rattle.sorts.specs.declared.Status.the-variants.{Trusted, Issued, Provisional}
-use Rattle.sorts.specs.Numbers.{speakers, depths}
-use Rattle.rows.specs.Written.{Grant, grant, written}
-use Rattle.rows.specs.Form.{depth}
-use Rattle.rows.specs.Allowed.{Allowed}
-use Rattle.reader.specs.declared.records.Kind.{Kind}
-use Rattle.reader.specs.declared.records.Kind.the-variants.{Tg, St, Li, Wd, Qu, Pl, Cf, Pv}
-use Rattle.ranges.specs.Bytes.{got}
-use Rattle.grants.specs.Grants.{readGrant}
-use Rattle.exact.specs.Writing.{kindOf, contentOf, writtenRecord, AllowedRecord}
-use Rattle.reader.specs.Records.{Record, enter, remove, confirm, preview, query, lettersOf, kinds, kindWith, readMark, readEntry, readLicence, nothingDeclared, readQuery, readContent, readRecord}
-use Rattle.grants.proofs.Spelled.{Spelled, spelled-take, spelled-fits, join, part, between}
-use Rattle.grants.proofs.Gives.{Gives, done, after}
-use Rattle.exact.proofs.Letters.{first, second, two-letters, mark-found}
-use Rattle.grants.proofs.Found.{upto-found, concl-found, grant-found}
-use Rattle.grants.proofs.Reread.{byte-reads, upto-reads, concl-reads, grant-reads}
-
--- no kind before it has them
-kind-again : (k : Kind) (n : ℕ) → kindWith kinds (first k) (second k) n ≡ got k n
-unfolding kindWith
-kind-again Tg n = refl
-kind-again St n = refl
-kind-again Li n = refl
-kind-again Wd n = refl
-kind-again Qu n = refl
-kind-again Pl n = refl
-kind-again Cf n = refl
-kind-again Pv n = refl
-
--- a kind whose letters stand at the start is read
-mark-reads : (s : List ℕ) (k : Kind) (n : ℕ) → Spelled s 0 (lettersOf k) n → readMark s ≡ got k n
-unfolding readMark
-mark-reads s k n x =
-    let y = part (first k ∷ []) (second k ∷ []) (rw (two-letters k) at x) in
-    rw (byte-reads (y .first), byte-reads (y .second)) (kind-again k n)
-
--- A record found from the first byte on.
-pub record RecordFound (s : List ℕ) (r : Record) (n : ℕ) : Type 0 where
-  pub allowed : AllowedRecord r
-  pub spelled : Spelled s 0 (writtenRecord r) n
-
-module _ (s : List ℕ) where
-  -- a grant after the bytes w
-  entry-found : (r : Grant → Record) (w : List ℕ) (at : ℕ) → Spelled s 0 w at →
-      ((g : Grant) → Allowed g → depth g ≤ depths → AllowedRecord (r g)) → ((g : Grant) → w ++ written g ≡ writtenRecord (r g)) → Gives (RecordFound s) (readEntry r s at)
-  unfolding readEntry
-  entry-found r w at x ok e =
-      after _ _ _ _ (grant-found depths s at) (λ g n f.
-      done _ _ _ (record { allowed = ok g (f .allowed) (f .deep); spelled = rw e at (join x (f .spelled)) }))
-
-  -- an issuer and a grant after the letters w
-  licence-found : (r : Prin → Grant → Record) (w : List ℕ) (at : ℕ) → Spelled s 0 w at →
-      ((p : Prin) (g : Grant) → p .0 < speakers → Allowed g → depth g ≤ depths → AllowedRecord (r p g)) →
-      ((p : Prin) (g : Grant) → (w ++ (p .0 ∷ [])) ++ written g ≡ writtenRecord (r p g)) → Gives (RecordFound s) (readLicence r s at)
-  unfolding readLicence
-  licence-found r w at x ok e =
-      after _ _ _ _ (upto-found (speakers - 1) s at) (λ p n f.
-      entry-found (r (record { 0 = p })) (w ++ (p ∷ [])) n (join x (f .stands)) (λ g. ok (record { 0 = p }) g (let h = f .is in omega arith)) (e (record { 0 = p })))
-
-  -- what follows the letters of a kind
-  content-found : (k : Kind) (at : ℕ) → Spelled s 0 (lettersOf k) at → Gives (RecordFound s) (readContent k s at)
-  unfolding readContent readQuery writtenRecord AllowedRecord
-  content-found Tg at x = entry-found (enter Trusted) (lettersOf Tg) at x (λ g i d. (tt, i, d)) (λ g. refl)
-  content-found St at x = entry-found (remove Trusted) (lettersOf St) at x (λ g i d. (tt, i, d)) (λ g. refl)
-  content-found Li at x = licence-found (λ p. enter (Issued p)) (lettersOf Li) at x (λ p g l i d. (l, i, d)) (λ p g. refl)
-  content-found Wd at x = licence-found (λ p. remove (Issued p)) (lettersOf Wd) at x (λ p g l i d. (l, i, d)) (λ p g. refl)
-  content-found Pl at x = licence-found (λ p. enter (Provisional p)) (lettersOf Pl) at x (λ p g l i d. (l, i, d)) (λ p g. refl)
-  content-found Cf at x = licence-found confirm (lettersOf Cf) at x (λ p g l i d. (l, i, d)) (λ p g. refl)
-  content-found Pv at x = licence-found preview (lettersOf Pv) at x (λ p g l i d. (l, i, d)) (λ p g. refl)
-  content-found Qu at x =
-      after _ _ _ _ (concl-found depths s (readGrant depths s) (grant-found depths s) nothingDeclared at) (λ c n f.
-      done _ _ _ (record { allowed = (f .allowed, f .deep); spelled = join x (f .spelled) }))
-
-  -- what is read is an allowed record, and its bytes
-  pub record-found : Gives (RecordFound s) (readRecord s)
-  unfolding readRecord
-  record-found = after _ _ _ _ (mark-found s) content-found
-
-  -- a grant that is spelled is read as a record's
-  entry-reads : (r : Grant → Record) (g : Grant) (at n : ℕ) → Allowed g → depth g ≤ depths → Spelled s at (written g) n → readEntry r s at ≡ got (r g) n
-  unfolding readEntry
-  entry-reads r g at n a d x = rw (grant-reads depths s g at n a d x)
-
-  -- and so with an issuer before it
-  licence-reads : (r : Prin → Grant → Record) (p : Prin) (g : Grant) (at n : ℕ) → p .0 < speakers → Allowed g → depth g ≤ depths → Spelled s at (p .0 ∷ written g) n →
-      readLicence r s at ≡ got (r p g) n
-  unfolding readLicence
-  licence-reads r p g at n l a d x =
-      let y = part (p .0 ∷ []) (written g) x in
-      rw (upto-reads (y .first) (speakers - 1) (omega arith)) (entry-reads (r p) g (y .place) n a d (y .second))
-
-  -- what follows the letters of an allowed record is read
-  content-reads : (r : Record) (at n : ℕ) → AllowedRecord r → Spelled s at (contentOf r) n → readContent (kindOf r) s at ≡ got r n
-  unfolding readContent readQuery AllowedRecord
-  content-reads (enter Trusted g) at n a x = entry-reads (enter Trusted) g at n (a .1) (a .2) x
-  content-reads (remove Trusted g) at n a x = entry-reads (remove Trusted) g at n (a .1) (a .2) x
-  content-reads (enter (Issued p) g) at n a x = licence-reads (λ q. enter (Issued q)) p g at n (a .0) (a .1) (a .2) x
-  content-reads (remove (Issued p) g) at n a x = licence-reads (λ q. remove (Issued q)) p g at n (a .0) (a .1) (a .2) x
-  content-reads (enter (Provisional p) g) at n a x = licence-reads (λ q. enter (Provisional q)) p g at n (a .0) (a .1) (a .2) x
-  content-reads (remove (Provisional p) g) at n a x = absurd (a .0)
-  content-reads (confirm p g) at n a x = licence-reads confirm p g at n (a .0) (a .1) (a .2) x
-  content-reads (preview p g) at n a x = licence-reads preview p g at n (a .0) (a .1) (a .2) x
-  content-reads (query c) at n a x = rw (concl-reads depths s (readGrant depths s) (grant-reads depths s) nothingDeclared c at n (a .0) (a .1) x)
-
-  -- an allowed record that is spelled is read
-  pub record-reads : (r : Record) (n : ℕ) → AllowedRecord r → Spelled s 0 (writtenRecord r) n → readRecord s ≡ got r n
-  unfolding readRecord writtenRecord
-  record-reads r n a x =
-      let y = part (lettersOf (kindOf r)) (contentOf r) x in
-      rw (mark-reads s (kindOf r) (y .place) (y .first)) (content-reads r (y .place) n a (y .second))
-
-  -- a record that was read is exactly its first bytes
-  pub record-exact : (r : Record) (n : ℕ) → readRecord s ≡ got r n → (take n s ≡ writtenRecord r) × (n ≤ length s) × AllowedRecord r
-  record-exact r n e =
-      let f = record-found r n e in
-      let q : n ≡ length (writtenRecord r) = let h = f .spelled .ends in omega arith in
-      (rw q (spelled-take (f .spelled)), spelled-fits (f .spelled) (omega arith), f .allowed)
+use Rattle.sorts.specs.Numbers.{depths}
+use Rattle.ranges.specs.Bytes.{Outcome, got, refused, andThen}
+use Rattle.frames.specs.Frames.{lettersOf, stated, Frame, holds, ends, frame, extent}
+use Rattle.reader.specs.Records.{Record, enter, remove, confirm, preview, query, readContent, fitted, readWhole, framed, readRecord}
+use Rattle.canon.proofs.Size as size
+use Rattle.exact.specs.Writing.{kindOf, contentOf, inFrame, writtenRecord, AllowedRecord, Bytes}
+use Rattle.exact.proofs.Framing.{Opens, frame-opens, in-frame, in-frame-length, extent-holds}
+use Rattle.exact.proofs.Contents.{content-found, whole-written}
 
 -- reading a record that was written gives it back, whatever follows
 pub record-read : (r : Record) (y : List ℕ) → AllowedRecord r → readRecord (writtenRecord r ++ y) ≡ got r (length (writtenRecord r))
-record-read r y a =
-    let x = between [] (writtenRecord r) y in
-    let q : 0 + length (writtenRecord r) ≡ length (writtenRecord r) = omega arith in
-    record-reads (writtenRecord r ++ y) r (length (writtenRecord r)) a (rw q at x)
+unfolding readRecord writtenRecord
+record-read r y a = rw (in-frame (kindOf r) (contentOf r) y, whole-written r a, in-frame-length (kindOf r) (contentOf r))
+
+-- What was read in a whole content is the content's bytes.
+pub record WholeFound (k : Kind) (c : List ℕ) (r : Record) (n : ℕ) : Type 0 where
+  pub kind : kindOf r ≡ k
+  pub allowed : AllowedRecord r
+  pub bytes : c ≡ contentOf r
+  pub long : n ≡ length c
+
+pub whole-found : (k : Kind) (c : List ℕ) (r : Record) (n : ℕ) → readWhole k c ≡ got r n → WholeFound k c r n
+unfolding readWhole
+whole-found k c r n e = go (readContent k c) refl e
+  where
+    all : (x : Record) (m : ℕ) → readContent k c ≡ got x m → m ≡ length c → x ≡ r → m ≡ n → WholeFound k c r n
+    all x m p q d i =
+        let f = content-found c k x m p in
+        let rest : drop m c ≡ [] = rw q (drop-length c) in
+        let is : c ≡ contentOf x = f .spelled .rest ∙ ap (λ (l : List ℕ). contentOf x ++ l) rest ∙ append-nil (contentOf x) in
+        record { kind = subst (λ (y : Record). kindOf y ≡ k) d (f .kind); allowed = subst AllowedRecord d (f .allowed); bytes = is ∙ ap contentOf d; long = sym i ∙ q }
+
+    ends-there : (x : Record) (m : ℕ) (t : Bool) → readContent k c ≡ got x m → eqb m (length c) ≡ t → cond t (got x m) (refused 10) ≡ got r n → WholeFound k c r n
+    ends-there x m true p q e = all x m p (eqb-true m (length c) q) (cc) (cc)
+    ends-there x m false p q e = let z : _≡_ {A = ℕ} 0 1 = cc in absurd (omega arith)
+
+    go : (o : Outcome Record) → readContent k c ≡ o → fitted (length c) o ≡ got r n → WholeFound k c r n
+    go (refused j) p e = let z : _≡_ {A = ℕ} 0 1 = cc in absurd (omega arith)
+    go (got x m) p e = ends-there x m (eqb m (length c)) p refl e
+
+-- A record that was read: its frame, and the whole content in it.
+pub record RecordFound (s : List ℕ) (r : Record) (n : ℕ) : Type 0 where
+  pub allowed : AllowedRecord r
+  pub frame : frame s ≡ holds (kindOf r) (contentOf r)
+  pub long : n ≡ 4 + length (contentOf r)
+
+pub record-found : (s : List ℕ) (r : Record) (n : ℕ) → readRecord s ≡ got r n → RecordFound s r n
+unfolding readRecord
+record-found s r n e = go (frame s) refl e
+  where
+    within : (k : Kind) (c : List ℕ) (o : Outcome Record) → frame s ≡ holds k c → readWhole k c ≡ o → andThen o (λ x m. got x (4 + length c)) ≡ got r n → RecordFound s r n
+    within k c (refused j) p q e = let z : _≡_ {A = ℕ} 0 1 = cc in absurd (omega arith)
+    within k c (got x m) p q e =
+        let d : x ≡ r = cc in
+        let i : 4 + length c ≡ n = cc in
+        let w = whole-found k c r m (q ∙ ap (λ (y : Record). got y m) d) in
+        record {
+          allowed = w .allowed;
+          frame = p ∙ (λ j. holds (sym (w .kind) j) (w .bytes j));
+          long = sym i ∙ ap (λ (l : List ℕ). 4 + length l) (w .bytes);
+        }
+
+    go : (f : Frame) → frame s ≡ f → framed f ≡ got r n → RecordFound s r n
+    go (ends j) p e = let z : _≡_ {A = ℕ} 0 1 = cc in absurd (omega arith)
+    go (holds k c) p e = within k c (readWhole k c) p refl e
+
+-- its length is all that it uses
+pub record-extent : (s : List ℕ) (r : Record) (n : ℕ) → readRecord s ≡ got r n → n ≡ extent s
+record-extent s r n e = let f = record-found s r n e in f .long ∙ sym (extent-holds s (kindOf r) (contentOf r) (f .frame))
+
+-- a record that was read is exactly its first bytes
+pub record-exact : (s : List ℕ) (r : Record) (n : ℕ) → readRecord s ≡ got r n → (Bytes s → take n s ≡ writtenRecord r) × (n ≤ length s) × AllowedRecord r
+unfolding writtenRecord inFrame
+record-exact s r n e =
+    let f = record-found s r n e in
+    let o = frame-opens s (kindOf r) (contentOf r) (f .frame) in
+    let own : take n s ≡ o .a ∷ o .b ∷ o .high ∷ o .low ∷ contentOf r =
+    ap (take n) (o .bytes) ∙ take-at (o .a ∷ o .b ∷ o .high ∷ o .low ∷ contentOf r) (o .after) n (omega (arith, f .long)) in
+    let fits : n ≤ length s = omega (arith, f .long, ap length (o .bytes), length-append (contentOf r) (o .after)) in
+    let low : Bytes s → o .low < 256 = λ b. subst (λ (x : ℕ). x < 256) (ap (λ (l : List ℕ). getD l 3 0) (o .bytes)) (b 3) in
+    let bytes : Bytes s → take n s ≡ lettersOf (kindOf r) ++ (length (contentOf r) / 256 ∷ length (contentOf r) % 256 ∷ contentOf r) =
+    λ b.
+    let l = low b in
+    let p : o .high ≡ length (contentOf r) / 256 = omega (arith, o .size) in
+    let q : o .low ≡ length (contentOf r) % 256 = omega (arith, o .size) in
+    own ∙ ap (λ (w : List ℕ). w ++ (o .high ∷ o .low ∷ contentOf r)) (o .letters) ∙ (λ i. lettersOf (kindOf r) ++ (p i ∷ q i ∷ contentOf r)) in
+    (bytes, fits, f .allowed)
+
+-- Two bytes are enough for the length of every content that can be read.
+pub content-most : (r : Record) → AllowedRecord r → length (contentOf r) ≤ 3435
+unfolding AllowedRecord
+content-most (enter Trusted g) a = omega (arith, size.grant-most g depths (a .1) (a .2))
+content-most (enter (Issued p) g) a = omega (arith, size.grant-most g depths (a .1) (a .2))
+content-most (enter (Provisional p) g) a = omega (arith, size.grant-most g depths (a .1) (a .2))
+content-most (remove Trusted g) a = omega (arith, size.grant-most g depths (a .1) (a .2))
+content-most (remove (Issued p) g) a = omega (arith, size.grant-most g depths (a .1) (a .2))
+content-most (remove (Provisional p) g) a = absurd (a .0)
+content-most (confirm p g) a = omega (arith, size.grant-most g depths (a .1) (a .2))
+content-most (preview p g) a = omega (arith, size.grant-most g depths (a .1) (a .2))
+content-most (query c) a = omega (arith, size.concl-most c 0 0 depths (a .0) (a .1))
+
+pub length-bytes : (r : Record) → AllowedRecord r → (length (contentOf r) / 256 < 256) × (length (contentOf r) % 256 < 256)
+length-bytes r a = let l = content-most r a in (omega arith, omega arith)

@@ -1,2 +1,2 @@
-pub mod Marks
 pub mod Record
+pub mod Whole

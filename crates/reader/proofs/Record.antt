@@ -1,5 +1,5 @@
 -- The reader of a record keeps its promise.
-use Prim.Native.Nat.{ℕ, _<_, _≤_, _-_}
+use Prim.Native.Nat.{ℕ, _+_, _<_, _≤_, _-_}
 use mathlib.Core.Path.{_≡_, refl, sym, ap, subst, _∙_}
 use mathlib.Core.Bool.{Bool, true, false, cond}
 use mathlib.Core.List.{List}
@@ -7,7 +7,7 @@ use mathlib.Core.Logic.{_↔_}
 use mathlib.Core.Option.{some}
 use native.Mathlib.Omega.{arith}
 use lib.ListN.{length, getD, List·getD-append}
-use lib.Dec.{leb}
+use lib.Dec.{leb, eqb}
 use borrow.Author.Tests.{le-leb, lt-leb, leb-true, leb-false}
 use Rattle.sorts.specs.declared.GrantNo.{GrantNo}
 use Rattle.sorts.specs.declared.Prin.{Prin}
@@ -29,11 +29,11 @@ use Rattle.grants.specs.declared.ConclOut.{ConclOut}
 use Rattle.grants.specs.declared.ConclOut.the-variants as concl
 use Rattle.grants.specs.declared.GrantReading.{GrantReading}
 use Rattle.grants.specs.declared.ConclReading.{ConclReading}
-use Rattle.reader.specs.declared.records.Kind.{Kind}
+use Rattle.frames.specs.declared.Kind.{Kind}
 use Rattle.sorts.specs.declared.Status.{Status}
 use Rattle.sorts.specs.declared.Status.the-variants.{Trusted, Issued, Provisional}
 use Rattle.reader.specs.declared.records.Request.{Request}
-use Rattle.reader.specs.declared.records.Request.the-variants.{Enter, Query}
+use Rattle.reader.specs.declared.records.Request.the-variants.{Enter, Remove, Confirm, Preview, Query}
 use Rattle.reader.specs.declared.records.Revision.{Revision}
 use Rattle.reader.specs.declared.records.Revision.the-variants as revision
 use Rattle.reader.specs.declared.records.Deed.{Deed}
@@ -43,20 +43,25 @@ use Rattle.reader.specs.declared.records.Found.the-variants.{Asks, Full,
 use Rattle.reader.specs.declared.records.Reading.{Reading}
 use Rattle.ranges.specs.Bytes.{Outcome, got, refused, andThen, upto}
 use Rattle.grants.specs.Grants.{readGrant, readConcl}
-use Rattle.reader.specs.Records.{Record, enter, remove, confirm, preview, query, readMark, readEntry, readLicence, readQuery, readContent, readRecord, nothingDeclared, canonRecord, readCanonical}
+use Rattle.frames.specs.Frames.{Frame, holds, ends, frame, frameLength, extent}
+use Rattle.reader.specs.Records.{Record, enter, remove, confirm, preview, query, readEntry, readLicence, readQuery, readContent, fitted, readWhole, framed, readRecord, nothingDeclared, canonRecord, readCanonical}
 use Rattle.reader.specs.Requests.{numberFound, fits, asking, foundOf, numberedBy, numbers, TurnedBack, Reads}
 use Rattle.grants.specs.inner.OnePass.{onOutcome, onGrant, onConcl}
 use Rattle.canon.specs.Canon.{canon, canonConcl}
 use Rattle.canonread.specs.inner.Again.{numForm, numConclForm}
 use Rattle.canonread.proofs.Fuse.{fuse-form, fuse-concl-form}
-use Rattle.reader.specs.inner.OneRecord.{starting, noR, given, entryOf, numEntry, asked, known, revisionOf, numRevision, queryOf, numQuery, numLicensed, numLicence, numContent, numRecord}
+use Rattle.reader.specs.inner.OneRecord.{starting, noR, given, entryOf, numEntry, asked, known, revisionOf, numRevision, queryOf, numQuery, numLicensed, numLicence, numContent, ending, wholeOf, numWhole, numFramed, numRecord}
 use Rattle.grants.proofs.Fuse.{FuseG, FuseC}
 
--- what is promised of a record that was read as o, over a table that shows N
-record Right (N : List Grant) (t : Table) (o : Outcome Record) (r : Reading) : Type 0 where
-  found : r .found ≡ foundOf N o
+-- what is promised of a record that was read as o, where a fault uses u bytes, over a table that shows N
+record RightUsing (u : ℕ) (N : List Grant) (t : Table) (o : Outcome Record) (r : Reading) : Type 0 where
+  found : r .found ≡ foundOf N u o
   rows : rowsOut (r .table .rows) (r .table .count) ≡ numberedBy N o
   form : TableForm (r .table)
+
+-- of a content, whose faults use none
+abbrev Right : List Grant → Table → Outcome Record → Reading → Type 0
+Right = RightUsing 0
 
 -- a record that numbers nothing keeps the table
 abbrev Keeps : Table → Reading → Type 0
@@ -97,7 +102,7 @@ revised-canon (revision.Confirm p) g = refl
 revised-canon (revision.Preview p) g = refl
 
 -- it finds the grant's number, and gives none
-revised-found : (v : Revision) (N : List Grant) (g : Grant) (n : ℕ) → foundOf N (got (revised v g) n) ≡ asking (asked v) N g n
+revised-found : (v : Revision) (N : List Grant) (g : Grant) (n : ℕ) → foundOf N 0 (got (revised v g) n) ≡ asking (asked v) N g n
 unfolding revised foundOf asked
 revised-found (revision.Remove by) N g n = refl
 revised-found (revision.Confirm p) N g n = refl
@@ -116,7 +121,7 @@ module _ (t : Table) (f : TableForm t) where
   start-good : Good (starting t) N
   start-good = tied refl (form-shown t f)
 
-  refused-right : (k : ℕ) → Right N t (refused k) (noR t k)
+  refused-right : (k : ℕ) → Right N t (refused k) (noR t 0 k)
   unfolding foundOf numberedBy
   refused-right k = record { found = refl; rows = refl; form = f }
 
@@ -269,31 +274,75 @@ module _ (t : Table) (f : TableForm t) where
     unfolding readLicence numLicence
     licence-right d at = go (upto (speakers - 1) s at)
       where
-        go : (o : Outcome ℕ) → Right N t (inForm (andThen o (λ p n. readEntry (licensed d (record { 0 = p })) s n))) (onOutcome o (noR t) (λ p n. numLicensed d (record { 0 = p }) s n t))
+        go : (o : Outcome ℕ) → Right N t (inForm (andThen o (λ p n. readEntry (licensed d (record { 0 = p })) s n))) (onOutcome o (noR t 0) (λ p n. numLicensed d (record { 0 = p }) s n t))
         go (refused k) = refused-right k
         go (got p n) = licensed-content d (record { 0 = p }) n
 
-    content-right : (k : Kind) (at : ℕ) → Right N t (inForm (readContent k s at)) (numContent k s at t)
+    content-right : (k : Kind) → Right N t (inForm (readContent k s)) (numContent k s t)
     unfolding readContent readQuery numContent numQuery licensed revised
-    content-right Kind.Tg at = entry-content Trusted at
-    content-right Kind.St at = revision-content (revision.Remove Trusted) at
-    content-right Kind.Li at = licence-right deed.Issue at
-    content-right Kind.Wd at = licence-right deed.Withdraw at
-    content-right Kind.Pl at = licence-right deed.Provisional at
-    content-right Kind.Cf at = licence-right deed.Confirm at
-    content-right Kind.Pv at = licence-right deed.Preview at
-    content-right Kind.Qu at =
-        rw (concl-first (readConcl (readGrant depths s) nothingDeclared s at))
-        (query-right (andThen (readConcl (readGrant depths s) nothingDeclared s at) (λ c n. got (canonConcl c) n)) (numConclForm nothingDeclared s at (starting t))
-        (fuse-concl-form s at (starting t) N start-good nothingDeclared))
+    content-right Kind.Tg = entry-content Trusted 0
+    content-right Kind.St = revision-content (revision.Remove Trusted) 0
+    content-right Kind.Li = licence-right deed.Issue 0
+    content-right Kind.Wd = licence-right deed.Withdraw 0
+    content-right Kind.Pl = licence-right deed.Provisional 0
+    content-right Kind.Cf = licence-right deed.Confirm 0
+    content-right Kind.Pv = licence-right deed.Preview 0
+    content-right Kind.Qu =
+        rw (concl-first (readConcl (readGrant depths s) nothingDeclared s 0))
+        (query-right (andThen (readConcl (readGrant depths s) nothingDeclared s 0) (λ c n. got (canonConcl c) n)) (numConclForm nothingDeclared s 0 (starting t))
+        (fuse-concl-form s 0 (starting t) N start-good nothingDeclared))
 
-    record-right : Right N t (readCanonical s) (numRecord s t)
-    unfolding readCanonical readRecord numRecord
-    record-right = go (readMark s)
+  -- with its frame
+
+  module _ (len : ℕ) where
+    -- what was found ends with the content, or it does not
+    ends-right : (o : Outcome Record) (n : ℕ) (r : Reading) (b : Bool) → eqb n len ≡ b → (b ≡ true → RightUsing (4 + len) N t o r) →
+        RightUsing (4 + len) N t (cond b o (refused 10)) (cond b r (noR t (4 + len) 10))
+    unfolding foundOf numberedBy
+    ends-right o n r true e h = h refl
+    ends-right o n r false e h = record { found = refl; rows = refl; form = f }
+
+    -- what was found of a record that was read, and ended at n
+    module _ (n : ℕ) (u : Table) (g : TableForm u) where
+      asks-or-full : (c : Bool) (q : Request) (r : Record) → foundOf N (4 + len) (got r (4 + len)) ≡ cond c (Asks q (4 + len)) (Full (4 + len)) →
+          rowsOut (u .rows) (u .count) ≡ numberedBy N (got r (4 + len)) →
+          RightUsing (4 + len) N t (cond (eqb n len) (got r (4 + len)) (refused 10)) (wholeOf t len u (cond c (Asks q n) (Full n)))
+      asks-or-full true q r e p = ends-right (got r (4 + len)) n (record { table = u; found = Asks q (4 + len) }) (eqb n len) refl (λ _. record { found = sym e; rows = p; form = g })
+      asks-or-full false q r e p = ends-right (got r (4 + len)) n (record { table = u; found = Full (4 + len) }) (eqb n len) refl (λ _. record { found = sym e; rows = p; form = g })
+
+      asks-or-unknown : (c : Bool) (q : Request) (r : Record) → foundOf N (4 + len) (got r (4 + len)) ≡ cond c (Asks q (4 + len)) (Unknown (4 + len)) →
+          rowsOut (u .rows) (u .count) ≡ numberedBy N (got r (4 + len)) →
+          RightUsing (4 + len) N t (cond (eqb n len) (got r (4 + len)) (refused 10)) (wholeOf t len u (cond c (Asks q n) (Unknown n)))
+      asks-or-unknown true q r e p = ends-right (got r (4 + len)) n (record { table = u; found = Asks q (4 + len) }) (eqb n len) refl (λ _. record { found = sym e; rows = p; form = g })
+      asks-or-unknown false q r e p = ends-right (got r (4 + len)) n (record { table = u; found = Unknown (4 + len) }) (eqb n len) refl (λ _. record { found = sym e; rows = p; form = g })
+
+      found-ends : (r : Record) → rowsOut (u .rows) (u .count) ≡ numberedBy N (got r n) →
+          RightUsing (4 + len) N t (cond (eqb n len) (got r (4 + len)) (refused 10)) (wholeOf t len u (foundOf N 0 (got r n)))
+      unfolding foundOf numberedBy
+      found-ends (enter by x) p = asks-or-full (fits (number x N)) _ (enter by x) refl p
+      found-ends (remove by x) p = asks-or-unknown (has x N) _ (remove by x) refl p
+      found-ends (confirm q x) p = asks-or-unknown (has x N) _ (confirm q x) refl p
+      found-ends (preview q x) p = asks-or-unknown (has x N) _ (preview q x) refl p
+      found-ends (query c) p = asks-or-full (fits (numberConcl c N)) _ (query c) refl p
+
+    -- a record in form, of a content that was read as o
+    whole-right : (o : Outcome Record) (r : Reading) → Right N t (inForm o) r →
+        RightUsing (4 + len) N t (inForm (andThen (fitted len o) (λ x n. got x (4 + len)))) (wholeOf t len (r .table) (r .found))
+    unfolding foundOf numberedBy
+    whole-right (refused j) r h = rw (h .found) (record { found = refl; rows = refl; form = f })
+    whole-right (got x n) r h = rw (h .found, shape (eqb n len)) (found-ends n (r .table) (h .form) (canonRecord x) (h .rows))
       where
-        go : (o : Outcome Kind) → Right N t (inForm (andThen o (λ k n. readContent k s n))) (onOutcome o (noR t) (λ k n. numContent k s n t))
-        go (got k n) = content-right k n
-        go (refused k) = refused-right k
+        shape : (b : Bool) → inForm (andThen (cond b (got x n) (refused 10)) (λ y m. got y (4 + len))) ≡ cond b (got (canonRecord x) (4 + len)) (refused 10)
+        shape true = refl
+        shape false = refl
+
+  record-right : (s : List ℕ) → RightUsing (extent s) N t (readCanonical s) (numRecord s t)
+  unfolding readCanonical readRecord readWhole extent numRecord numWhole foundOf numberedBy
+  record-right s = go (frame s)
+    where
+      go : (x : Frame) → RightUsing (frameLength x) N t (inForm (framed x)) (numFramed t x)
+      go (holds k c) = whole-right (length c) (readContent k c) (numContent k c t) (content-right c k)
+      go (ends j) = record { found = refl; rows = refl; form = f }
 
 -- A record that numbers nothing keeps the table, in form or not.
 
@@ -301,7 +350,7 @@ entry-keeps : (by : Status) (t : Table) (R : GrantReading) → Keeps t (entryOf 
 unfolding given
 entry-keeps by t R = go (R .out) (R .numbering .full)
   where
-    go : (o : GrantOut) (b : Bool) → Keeps t (onGrant o (noR t) (λ g n. cond b (record { table = t; found = Full n }) (record { table = R .numbering .table; found = Asks (Enter by g) n })))
+    go : (o : GrantOut) (b : Bool) → Keeps t (onGrant o (noR t 0) (λ g n. cond b (record { table = t; found = Full n }) (record { table = R .numbering .table; found = Asks (Enter by g) n })))
     go (grant.Got g n) true e = refl
     go (grant.Got g n) false e = absurd (no-true (sym e))
     go (grant.Refused k) b e = refl
@@ -309,7 +358,7 @@ entry-keeps by t R = go (R .out) (R .numbering .full)
 revision-keeps : (v : Revision) (t : Table) (R : GrantReading) → Keeps t (revisionOf v t R)
 revision-keeps v t R = go (R .out)
   where
-    go : (o : GrantOut) → Keeps t (onGrant o (noR t) (λ g n. record { table = t; found = known (t .count) (R .numbering .full) v g n }))
+    go : (o : GrantOut) → Keeps t (onGrant o (noR t 0) (λ g n. record { table = t; found = known (t .count) (R .numbering .full) v g n }))
     go (grant.Got g n) e = refl
     go (grant.Refused k) e = refl
 
@@ -317,7 +366,7 @@ query-keeps : (t : Table) (R : ConclReading) → Keeps t (queryOf t R)
 unfolding given
 query-keeps t R = go (R .out) (R .numbering .full)
   where
-    go : (o : ConclOut) (b : Bool) → Keeps t (onConcl o (noR t) (λ c n. cond b (record { table = t; found = Full n }) (record { table = R .numbering .table; found = Asks (Query c) n })))
+    go : (o : ConclOut) (b : Bool) → Keeps t (onConcl o (noR t 0) (λ c n. cond b (record { table = t; found = Full n }) (record { table = R .numbering .table; found = Asks (Query c) n })))
     go (concl.Got c n) true e = refl
     go (concl.Got c n) false e = absurd (no-true (sym e))
     go (concl.Refused k) b e = refl
@@ -334,28 +383,54 @@ licence-keeps : (d : Deed) (s : List ℕ) (at : ℕ) (t : Table) → Keeps t (nu
 unfolding numLicence
 licence-keeps d s at t = go (upto (speakers - 1) s at)
   where
-    go : (o : Outcome ℕ) → Keeps t (onOutcome o (noR t) (λ p n. numLicensed d (record { 0 = p }) s n t))
+    go : (o : Outcome ℕ) → Keeps t (onOutcome o (noR t 0) (λ p n. numLicensed d (record { 0 = p }) s n t))
     go (refused k) e = refl
     go (got p n) e = licensed-keeps d (record { 0 = p }) s n t e
 
-content-keeps : (k : Kind) (s : List ℕ) (at : ℕ) (t : Table) → Keeps t (numContent k s at t)
+content-keeps : (k : Kind) (c : List ℕ) (t : Table) → Keeps t (numContent k c t)
 unfolding numContent numEntry numRevision numQuery
-content-keeps Kind.Tg s at t e = entry-keeps Trusted t (numForm s at (starting t)) e
-content-keeps Kind.St s at t e = revision-keeps (revision.Remove Trusted) t (numForm s at (starting t)) e
-content-keeps Kind.Li s at t e = licence-keeps deed.Issue s at t e
-content-keeps Kind.Wd s at t e = licence-keeps deed.Withdraw s at t e
-content-keeps Kind.Pl s at t e = licence-keeps deed.Provisional s at t e
-content-keeps Kind.Cf s at t e = licence-keeps deed.Confirm s at t e
-content-keeps Kind.Pv s at t e = licence-keeps deed.Preview s at t e
-content-keeps Kind.Qu s at t e = query-keeps t (numConclForm nothingDeclared s at (starting t)) e
+content-keeps Kind.Tg c t e = entry-keeps Trusted t (numForm c 0 (starting t)) e
+content-keeps Kind.St c t e = revision-keeps (revision.Remove Trusted) t (numForm c 0 (starting t)) e
+content-keeps Kind.Li c t e = licence-keeps deed.Issue c 0 t e
+content-keeps Kind.Wd c t e = licence-keeps deed.Withdraw c 0 t e
+content-keeps Kind.Pl c t e = licence-keeps deed.Provisional c 0 t e
+content-keeps Kind.Cf c t e = licence-keeps deed.Confirm c 0 t e
+content-keeps Kind.Pv c t e = licence-keeps deed.Preview c 0 t e
+content-keeps Kind.Qu c t e = query-keeps t (numConclForm nothingDeclared c 0 (starting t)) e
+
+-- whether a request gives numbers is not a matter of its length
+asks-numbers : (q : Request) (n m : ℕ) → numbers (Asks q n) ≡ numbers (Asks q m)
+asks-numbers (Enter by g) n m = refl
+asks-numbers (Remove by g) n m = refl
+asks-numbers (Confirm p g) n m = refl
+asks-numbers (Preview p g) n m = refl
+asks-numbers (Query c) n m = refl
+
+whole-keeps : (t : Table) (len : ℕ) (u : Table) (x : Found) → (numbers x ≡ false → u ≡ t) → Keeps t (wholeOf t len u x)
+whole-keeps t len u (Asks q n) h = go (eqb n len)
+  where
+    go : (b : Bool) → Keeps t (cond b (record { table = u; found = Asks q (4 + len) }) (noR t (4 + len) 10))
+    go true e = h (asks-numbers q n (4 + len) ∙ e)
+    go false e = refl
+whole-keeps t len u (Full n) h = go (eqb n len)
+  where
+    go : (b : Bool) → Keeps t (cond b (record { table = u; found = Full (4 + len) }) (noR t (4 + len) 10))
+    go true e = h refl
+    go false e = refl
+whole-keeps t len u (Unknown n) h = go (eqb n len)
+  where
+    go : (b : Bool) → Keeps t (cond b (record { table = u; found = Unknown (4 + len) }) (noR t (4 + len) 10))
+    go true e = h refl
+    go false e = refl
+whole-keeps t len u (Refused k n) h = λ e. refl
 
 record-keeps : (s : List ℕ) (t : Table) → Keeps t (numRecord s t)
-unfolding numRecord
-record-keeps s t = go (readMark s)
+unfolding numRecord numWhole
+record-keeps s t = go (frame s)
   where
-    go : (o : Outcome Kind) → Keeps t (onOutcome o (noR t) (λ k n. numContent k s n t))
-    go (got k n) e = content-keeps k s n t e
-    go (refused k) e = refl
+    go : (x : Frame) → Keeps t (numFramed t x)
+    go (holds k c) = let R = numContent k c t in whole-keeps t (length c) (R .table) (R .found) (content-keeps k c t)
+    go (ends j) = λ e. refl
 
 -- The number of what is found.
 
@@ -364,18 +439,18 @@ module _ (k : ℕ) where
   asked-or true q n f j e = (λ h. let z : _≡_ {A = ℕ} 0 1 = cc in absurd (omega arith), λ h. absurd (no-true (sym (h .0))))
   asked-or false q n f j e = (λ h. let d : some j ≡ some k = sym e ∙ h in let z : j ≡ k = cc in (refl, sym z), λ h. e ∙ ap some (sym (h .1)))
 
-  found-number : (N : List Grant) (o : Outcome Record) → (numberFound (foundOf N o) ≡ some k) ↔ TurnedBack N o k
+  found-number : (N : List Grant) (u : ℕ) (o : Outcome Record) → (numberFound (foundOf N u o) ≡ some k) ↔ TurnedBack N o k
   unfolding foundOf
-  found-number N (refused j) = (λ h. let d : j ≡ k = cc in d, λ h. ap some h)
-  found-number N (got (enter by g) n) = asked-or (fits (number g N)) _ n (Full n) 6 refl
-  found-number N (got (remove by g) n) = asked-or (has g N) _ n (Unknown n) 7 refl
-  found-number N (got (confirm p g) n) = asked-or (has g N) _ n (Unknown n) 7 refl
-  found-number N (got (preview p g) n) = asked-or (has g N) _ n (Unknown n) 7 refl
-  found-number N (got (query c) n) = asked-or (fits (numberConcl c N)) _ n (Full n) 6 refl
+  found-number N u (refused j) = (λ h. let d : j ≡ k = cc in d, λ h. ap some h)
+  found-number N u (got (enter by g) n) = asked-or (fits (number g N)) _ n (Full n) 6 refl
+  found-number N u (got (remove by g) n) = asked-or (has g N) _ n (Unknown n) 7 refl
+  found-number N u (got (confirm p g) n) = asked-or (has g N) _ n (Unknown n) 7 refl
+  found-number N u (got (preview p g) n) = asked-or (has g N) _ n (Unknown n) 7 refl
+  found-number N u (got (query c) n) = asked-or (fits (numberConcl c N)) _ n (Full n) 6 refl
 
 -- The promise, by whether the count is one of a book.
 
-pub reads-over : (s : List ℕ) (t : Table) (r : Reading) → grants < t .count → r ≡ noR t 9 → Reads s t r
+pub reads-over : (s : List ℕ) (t : Table) (r : Reading) → grants < t .count → r ≡ noR t 0 9 → Reads s t r
 reads-over s t r l e = record {
   over = λ h. e;
   found = λ f. let c = f .count in absurd (omega arith);
@@ -394,7 +469,7 @@ reads-within s t r l e =
       rows = λ f. record-right t f s .rows;
       refusals = λ f k.
           subst (λ (x : Found). (numberFound x ≡ some k) ↔ TurnedBack (rowsOut (t .rows) (t .count)) (readCanonical s) k) (sym (record-right t f s .found))
-          (found-number k (rowsOut (t .rows) (t .count)) (readCanonical s));
+          (found-number k (rowsOut (t .rows) (t .count)) (extent s) (readCanonical s));
       form = λ f. record-right t f s .form;
       kept = record-keeps s t;
       within = λ h. refl;

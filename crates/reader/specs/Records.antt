@@ -1,8 +1,8 @@
--- Document 01, "Records", with those of document 02, 5 and 6; and refusals 1 and 2 at the two mark bytes.
-use Prim.Native.Nat.{ℕ, _-_}
-use mathlib.Core.Bool.{Bool, _&&_, cond}
-use mathlib.Core.List.{List, [], _∷_}
-use lib.ListN.{getD}
+-- Document 01, "Records", with those of document 02, 5 and 6: what a record asks, and how its content is read in its frame.
+use Prim.Native.Nat.{ℕ, _+_, _-_}
+use mathlib.Core.Bool.{cond}
+use mathlib.Core.List.{List}
+use lib.ListN.{length}
 use lib.Dec.{eqb}
 use Rattle.sorts.specs.declared.Prin.{Prin}
 use Rattle.sorts.specs.declared.Status.{Status}
@@ -10,11 +10,12 @@ use Rattle.sorts.specs.declared.Status.the-variants.{Trusted, Issued, Provision
 use Rattle.sorts.specs.Numbers.{depths, speakers}
 use Rattle.rows.specs.Written.{Grant, Concl}
 use Rattle.ranges.specs.declared.Scope.{Scope}
-use Rattle.reader.specs.declared.records.Kind.{Kind}
-use Rattle.reader.specs.declared.records.Kind.the-variants.{Tg, St, Li, Wd, Qu, Pl, Cf, Pv}
-use Rattle.ranges.specs.Bytes.{Outcome, got, refused, andThen, byteAt, upto}
+use Rattle.frames.specs.declared.Kind.{Kind}
+use Rattle.frames.specs.declared.Kind.the-variants.{Tg, St, Li, Wd, Qu, Pl, Cf, Pv}
+use Rattle.ranges.specs.Bytes.{Outcome, got, refused, andThen, upto}
 use Rattle.grants.specs.Grants.{readGrant, readConcl}
 use Rattle.canon.specs.Canon.{canon, canonConcl}
+use Rattle.frames.specs.Frames.{Frame, holds, ends, frame}
 
 -- "TG enters a trusted grant, ST strikes it: a grant follows. LI issues a licence, WD withdraws it: an issuer byte 00 to 0F,
 -- then a grant. QU queries: one closed conclusion follows". Document 02, 5: "Record PL enters a provisional licence in the form of LI;
@@ -28,40 +29,11 @@ pub data Record : Type 0 where
   preview : Prin → Grant → Record
   query : Concl → Record
 
--- "Each opens with two letters in ASCII."
-abbrev pub lettersOf : Kind → List ℕ
-lettersOf Tg = 84 ∷ 71 ∷ []
-lettersOf St = 83 ∷ 84 ∷ []
-lettersOf Li = 76 ∷ 73 ∷ []
-lettersOf Wd = 87 ∷ 68 ∷ []
-lettersOf Qu = 81 ∷ 85 ∷ []
-lettersOf Pl = 80 ∷ 76 ∷ []
-lettersOf Cf = 67 ∷ 70 ∷ []
-lettersOf Pv = 80 ∷ 86 ∷ []
-
--- all kinds, in the order in which the documents list them
-abbrev pub kinds : List Kind
-kinds = Tg ∷ St ∷ Li ∷ Wd ∷ Qu ∷ Pl ∷ Cf ∷ Pv ∷ []
-
--- whether these are a kind's letters
-abbrev pub opens : Kind → ℕ → ℕ → Bool
-opens k a b = eqb a (getD (lettersOf k) 0 0) && eqb b (getD (lettersOf k) 1 0)
-
--- The first of some kinds that has the letters a and b, and the place n after them; 2: "the two mark bytes are none of" the letters,
--- to which document 02, 5 adds "the letters of each record added here or later".
-unfoldable pub kindWith : List Kind → ℕ → ℕ → ℕ → Outcome Kind
-kindWith [] a b n = refused 2
-kindWith (k ∷ ks) a b n = cond (opens k a b) (got k n) (kindWith ks a b n)
-
--- The kind of a record. "fewer than two mark bytes is 1"
-unfoldable pub readMark : List ℕ → Outcome Kind
-readMark s = andThen (byteAt s 0) (λ a n1. andThen (byteAt s n1) (λ b n2. kindWith kinds a b n2))
-
--- A grant after the mark, at depth 1.
+-- A grant, at depth 1.
 unfoldable pub readEntry : (Grant → Record) → List ℕ → ℕ → Outcome Record
 readEntry r s at = andThen (readGrant depths s at) (λ g n. got (r g) n)
 
--- An issuer byte and a grant after the mark.
+-- An issuer byte and a grant.
 unfoldable pub readLicence : (Prin → Grant → Record) → List ℕ → ℕ → Outcome Record
 readLicence r s at = andThen (upto (speakers - 1) s at) (λ p n. readEntry (r (record { 0 = p })) s n)
 
@@ -69,24 +41,37 @@ readLicence r s at = andThen (upto (speakers - 1) s at) (λ p n. readEntry (r (r
 abbrev pub nothingDeclared : Scope
 nothingDeclared = record { prins = 0; res = 0 }
 
--- A closed conclusion after the mark, in which "an inner grant is at depth 1".
+-- A closed conclusion, in which "an inner grant is at depth 1".
 unfoldable pub readQuery : List ℕ → ℕ → Outcome Record
 readQuery s at = andThen (readConcl (readGrant depths s) nothingDeclared s at) (λ c n. got (query c) n)
 
--- What follows the mark.
-unfoldable pub readContent : Kind → List ℕ → ℕ → Outcome Record
-readContent Tg s at = readEntry (enter Trusted) s at
-readContent St s at = readEntry (remove Trusted) s at
-readContent Li s at = readLicence (λ p. enter (Issued p)) s at
-readContent Wd s at = readLicence (λ p. remove (Issued p)) s at
-readContent Qu s at = readQuery s at
-readContent Pl s at = readLicence (λ p. enter (Provisional p)) s at
-readContent Cf s at = readLicence confirm s at
-readContent Pv s at = readLicence preview s at
+-- The content c of a record, from its first byte on.
+unfoldable pub readContent : Kind → List ℕ → Outcome Record
+readContent Tg c = readEntry (enter Trusted) c 0
+readContent St c = readEntry (remove Trusted) c 0
+readContent Li c = readLicence (λ p. enter (Issued p)) c 0
+readContent Wd c = readLicence (λ p. remove (Issued p)) c 0
+readContent Qu c = readQuery c 0
+readContent Pl c = readLicence (λ p. enter (Provisional p)) c 0
+readContent Cf c = readLicence confirm c 0
+readContent Pv c = readLicence preview c 0
 
--- A record as it is written, which may be followed by others, and its length.
+-- 10: "when a record's content needs fewer or more bytes than its stated length; found from left to right like the others". What was
+-- read in a content of len bytes ends where they end; a byte that is missing is one beyond them; a fault before it decides.
+abbrev pub fitted : ℕ → Outcome Record → Outcome Record
+fitted len (got r n) = cond (eqb n len) (got r n) (refused 10)
+fitted len (refused k) = refused (cond (eqb k 1) 10 k)
+
+unfoldable pub readWhole : Kind → List ℕ → Outcome Record
+readWhole k c = fitted (length c) (readContent k c)
+
+-- A record as it is written, which may be followed by others, and its length: that of its content, and the four bytes before it.
+abbrev pub framed : Frame → Outcome Record
+framed (holds k c) = andThen (readWhole k c) (λ r n. got r (4 + length c))
+framed (ends j) = refused j
+
 unfoldable pub readRecord : List ℕ → Outcome Record
-readRecord s = andThen (readMark s) (λ k n. readContent k s n)
+readRecord s = framed (frame s)
 
 -- Document 02, 3: "two grants are the same when their bytes agree after inner grants are brought to this form, conditions are put in
 -- ascending order of bytes and repeats are dropped." A record with its grants in that form; all else of it stays.

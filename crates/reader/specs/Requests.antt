@@ -21,22 +21,23 @@ use Rattle.reader.specs.declared.records.Found.{Found}
 use Rattle.reader.specs.declared.records.Found.the-variants.{Asks, Full, Unknown, Refused}
 use Rattle.reader.specs.declared.records.Reading.{Reading}
 use Rattle.ranges.specs.Bytes.{Outcome, got, refused}
+use Rattle.frames.specs.Frames.{extent}
 use Rattle.reader.specs.Records.{Record, enter, remove, confirm, preview, query, readCanonical}
 use Rattle.reader.specs.inner.OneRecord.{numRecord}
 
 -- "If an answer is an enum, a definition gives this paper's number and values for each of its cases." What the reader finds is a
--- request, or a refusal with its number; and the bytes used: "the record's length for 6 and 7, else 0".
+-- request, or a refusal with its number; and the bytes used, which are the record's length but for refusals 1, 2 and 9, where they are 0.
 abbrev pub numberFound : Found → Option ℕ
 numberFound (Asks q n) = none
 numberFound (Full n) = some 6
 numberFound (Unknown n) = some 7
-numberFound (Refused k) = some k
+numberFound (Refused k n) = some k
 
 abbrev pub usedFound : Found → ℕ
 usedFound (Asks q n) = n
 usedFound (Full n) = n
 usedFound (Unknown n) = n
-usedFound (Refused k) = 0
+usedFound (Refused k n) = n
 
 -- "the grants that the record would number and those in N exceed 64": the list that they make is too long.
 abbrev pub fits : List Grant → Bool
@@ -50,14 +51,14 @@ entering by N g n = cond (fits (number g N)) (Asks (Enter by (record { 0 = place
 abbrev pub asking : (GrantNo → Request) → List Grant → Grant → ℕ → Found
 asking q N g n = cond (has g N) (Asks (q (record { 0 = place g N })) n) (Unknown n)
 
--- What the reader finds where the grants N are numbered.
-unfoldable pub foundOf : List Grant → Outcome Record → Found
-foundOf N (refused k) = Refused k
-foundOf N (got (enter by g) n) = entering by N g n
-foundOf N (got (remove by g) n) = asking (Remove by) N g n
-foundOf N (got (confirm p g) n) = asking (Confirm p) N g n
-foundOf N (got (preview p g) n) = asking (Preview p) N g n
-foundOf N (got (query c) n) = cond (fits (numberConcl c N)) (Asks (Query (conclOf (numberConcl c N) c)) n) (Full n)
+-- What the reader finds where the grants N are numbered, and a fault uses u bytes.
+unfoldable pub foundOf : List Grant → ℕ → Outcome Record → Found
+foundOf N u (refused k) = Refused k u
+foundOf N u (got (enter by g) n) = entering by N g n
+foundOf N u (got (remove by g) n) = asking (Remove by) N g n
+foundOf N u (got (confirm p g) n) = asking (Confirm p) N g n
+foundOf N u (got (preview p g) n) = asking (Preview p) N g n
+foundOf N u (got (query c) n) = cond (fits (numberConcl c N)) (Asks (Query (conclOf (numberConcl c N) c)) n) (Full n)
 
 -- The grants numbered after it.
 unfoldable pub numberedBy : List Grant → Outcome Record → List Grant
@@ -77,7 +78,7 @@ numbers (Asks (Preview p g) n) = false
 numbers (Asks (Query c) n) = true
 numbers (Full n) = false
 numbers (Unknown n) = false
-numbers (Refused k) = false
+numbers (Refused k n) = false
 
 -- When a record is turned back where the grants N are numbered, by what was read: the fault's own number; 6 "the grants that the
 -- record would number and those in N exceed 64"; 7 for the removal or the confirming of a grant that has no number.
@@ -90,12 +91,12 @@ TurnedBack N (got (preview p g) n) k = (has g N ≡ false) × (k ≡ 7)
 TurnedBack N (got (query c) n) k = (fits (numberConcl c N) ≡ false) × (k ≡ 6)
 
 -- THE PROMISE of the reader, over any table: a count above 64 is out of form, 9; over a table in form the answer and the rows,
--- written out, are what the two functions say, each number under its condition and no other, and the table left is in form; a
+-- written out, are what the two functions say, with the bytes that the record's frame has, each number under its condition and no other, and the table left is in form; a
 -- record that gives no numbers leaves the table as it was, in form or not. Over any table with a count up to 64, in form or not,
 -- it is what the readers of grants and conclusions find over the rows as they are.
 pub record Reads (s : List ℕ) (t : Table) (r : Reading) : Type 0 where
-  pub over : grants < t .count → r ≡ record { table = t; found = Refused 9 }
-  pub found : TableForm t → r .found ≡ foundOf (rowsOut (t .rows) (t .count)) (readCanonical s)
+  pub over : grants < t .count → r ≡ record { table = t; found = Refused 9 0 }
+  pub found : TableForm t → r .found ≡ foundOf (rowsOut (t .rows) (t .count)) (extent s) (readCanonical s)
   pub rows : TableForm t → rowsOut (r .table .rows) (r .table .count) ≡ numberedBy (rowsOut (t .rows) (t .count)) (readCanonical s)
   pub refusals : TableForm t → (k : ℕ) → (numberFound (r .found) ≡ some k) ↔ TurnedBack (rowsOut (t .rows) (t .count)) (readCanonical s) k
   pub form : TableForm t → TableForm (r .table)

@@ -1,4 +1,6 @@
-// Whole records: the two mark bytes, and what follows them.
+// Whole records: what a record asks, read from the content of its frame.
+use frames::FrameOut;
+use frames::Kind;
 use grants::ConclOut;
 use grants::GrantOut;
 use ranges::Got;
@@ -11,32 +13,17 @@ use sorts::Prin;
 use sorts::Refusal;
 use sorts::Status;
 ghost use mathlib.Core.Path.{_≡_};
-ghost use Prim.Native.Nat.{_≤_};
+ghost use Prim.Native.Nat.{_+_, _≤_};
+ghost use mathlib.Core.Bool.{cond};
+ghost use lib.Dec.{eqb};
+ghost use lib.ListN.{length, take, drop};
 ghost use Rattle.sorts.specs.Numbers.{grants};
-ghost use Rattle.reader.specs.Records.{lettersOf, kinds, opens, kindWith, readMark};
+ghost use Rattle.frames.specs.inner.Told.{longest};
 ghost use Rattle.reader.specs.Requests.{Reads};
-ghost use Rattle.reader.specs.inner.OneRecord.{starting, asMark, noR, given, numEntry, asked, known, numRevision, numQuery, numLicensed, numLicence, numContent};
+ghost use Rattle.reader.specs.inner.OneRecord.{starting, noR, given, numEntry, asked, known, numRevision, numQuery, numLicensed, numLicence, numContent, ending, numWhole};
 
 // The last principal who may issue.
 const LAST_ISSUER: u8 = Prin::SPEAKERS - 1;
-
-// The kinds of record.
-pub enum Kind {
-    Tg,
-    St,
-    Li,
-    Wd,
-    Qu,
-    Pl,
-    Cf,
-    Pv,
-}
-
-// A record's kind with the place after its mark, or the number of the refusal.
-pub enum MarkOut {
-    Got(Kind, usize),
-    No(u8),
-}
 
 // What a record asks, with each grant as its number: to enter or to remove a trusted grant or a licence, to make a principal's
 // provisional licence firm, to preview the withdrawal of a licence, or an answer.
@@ -67,12 +54,12 @@ enum Deed {
 }
 
 // What the reader found: a request; a record whose new grants find no numbers left; a record that removes, confirms or previews what
-// has no number; each with the record's length. Or the number of the refusal.
+// has no number; each with the record's length. Or the number of the refusal, with the bytes that are used.
 pub enum Found {
     Asks(Request, usize),
     Full(usize),
     Unknown(usize),
-    Refused(u8),
+    Refused(u8, usize),
 }
 
 // What was found, and the table with the record's grants numbered.
@@ -91,96 +78,13 @@ fn start(t: Table) -> Numbering
     }
 }
 
-impl Kind {
-    // The marks: the two letters with which a record opens.
-    pub const TG: [u8; 2] = *b"TG";
-
-    pub const ST: [u8; 2] = *b"ST";
-
-    pub const LI: [u8; 2] = *b"LI";
-
-    pub const WD: [u8; 2] = *b"WD";
-
-    pub const QU: [u8; 2] = *b"QU";
-
-    pub const PL: [u8; 2] = *b"PL";
-
-    pub const CF: [u8; 2] = *b"CF";
-
-    pub const PV: [u8; 2] = *b"PV";
-
-    // How many kinds there are.
-    pub const COUNT: usize = 8;
-
-    // The letters of a kind.
-    pub fn letters(self) -> [u8; 2]
-        ensures { λ m. ⌜ m ≡ lettersOf self ⌝ }
-    {
-        match self {
-            Kind::Tg => Kind::TG,
-            Kind::St => Kind::ST,
-            Kind::Li => Kind::LI,
-            Kind::Wd => Kind::WD,
-            Kind::Qu => Kind::QU,
-            Kind::Pl => Kind::PL,
-            Kind::Cf => Kind::CF,
-            Kind::Pv => Kind::PV,
-        }
-    }
-
-    // Whether a and b are its letters.
-    fn opens(self, a: u8, b: u8) -> bool
-        ensures { λ r. ⌜ r ≡ opens self a b ⌝ }
-    {
-        let m = self.letters();
-        if a == m[0] { b == m[1] } else { false }
-    }
-}
-
-// The kind that two letters say, where n is the place after them.
-fn kind_of(a: u8, b: u8, n: usize) -> MarkOut
-    ensures { λ r. ⌜ r ≡ asMark (kindWith kinds a b n) ⌝ }
-{
-    let all = [
-        Kind::Tg,
-        Kind::St,
-        Kind::Li,
-        Kind::Wd,
-        Kind::Qu,
-        Kind::Pl,
-        Kind::Cf,
-        Kind::Pv,
-    ];
-    let mut i = 0;
-    while i < Kind::COUNT {
-        let k = all[i];
-        if k.opens(a, b) {
-            return MarkOut::Got(k, n);
-        }
-        i += 1;
-    }
-    MarkOut::No(Refusal::MARK)
-}
-
-// The kind of the record that s starts with.
-pub fn read_mark(s: &[u8]) -> MarkOut
-    ensures { λ r. ⌜ r ≡ asMark (readMark (now (s .entry))) ⌝ }
-{
-    if s.len() < 2 {
-        return MarkOut::No(Refusal::MISSING);
-    }
-    let a = s[0];
-    let b = s[1];
-    kind_of(a, b, 2)
-}
-
-// A record that is refused, which leaves the table.
-fn refused(t: Table, k: u8) -> Reading
-    ensures { λ r. ⌜ r ≡ noR t k ⌝ }
+// A record that is refused, which leaves the table, and uses n bytes.
+fn refused(t: Table, n: usize, k: u8) -> Reading
+    ensures { λ r. ⌜ r ≡ noR t n k ⌝ }
 {
     Reading {
         table: t,
-        found: Found::Refused(k),
+        found: Found::Refused(k, n),
     }
 }
 
@@ -210,7 +114,7 @@ fn read_entry(s: &[u8], at: usize, by: Status, t: Table) -> Reading
     let u = g.numbering;
     let o = g.out;
     match o {
-        GrantOut::Refused(k) => refused(t, k),
+        GrantOut::Refused(k) => refused(t, 0, k),
         GrantOut::Got(no, n) => given(t, u, Request::Enter(by, no), n),
     }
 }
@@ -249,7 +153,7 @@ fn read_revision(s: &[u8], at: usize, v: Revision, t: Table) -> Reading
     let u = g.numbering;
     let o = g.out;
     match o {
-        GrantOut::Refused(k) => refused(t, k),
+        GrantOut::Refused(k) => refused(t, 0, k),
         GrantOut::Got(no, n) => Reading {
             table: t,
             found: known(t.count, u.full, v, no, n),
@@ -267,7 +171,7 @@ fn read_query(s: &[u8], at: usize, t: Table) -> Reading
     let u = c.numbering;
     let o = c.out;
     match o {
-        ConclOut::Refused(k) => refused(t, k),
+        ConclOut::Refused(k) => refused(t, 0, k),
         ConclOut::Got(what, n) => given(t, u, Request::Query(what), n),
     }
 }
@@ -292,26 +196,74 @@ fn read_licence(s: &[u8], at: usize, d: Deed, t: Table) -> Reading
     ensures { λ r. ⌜ r ≡ numLicence d (now (s .entry)) at t ⌝ }
 {
     match ranges::read_upto(LAST_ISSUER, s, at) {
-        Got::No(k) => refused(t, k),
+        Got::No(k) => refused(t, 0, k),
         Got::Byte(p, n) => read_licensed(s, n, d, Prin(p), t),
     }
 }
 
-// What follows the mark.
-fn read_content(k: Kind, s: &[u8], at: usize, t: Table) -> Reading
+// The content of a record, from its first byte on.
+fn read_content(k: Kind, c: &[u8], t: Table) -> Reading
     requires { ⌜ t .count ≤ grants ⌝ }
-    ensures { λ r. ⌜ r ≡ numContent k (now (s .entry)) at t ⌝ }
+    ensures { λ r. ⌜ r ≡ numContent k (now (c .entry)) t ⌝ }
 {
     match k {
-        Kind::Tg => read_entry(s, at, Status::Trusted, t),
-        Kind::St => read_revision(s, at, Revision::Remove(Status::Trusted), t),
-        Kind::Li => read_licence(s, at, Deed::Issue, t),
-        Kind::Wd => read_licence(s, at, Deed::Withdraw, t),
-        Kind::Qu => read_query(s, at, t),
-        Kind::Pl => read_licence(s, at, Deed::Provisional, t),
-        Kind::Cf => read_licence(s, at, Deed::Confirm, t),
-        Kind::Pv => read_licence(s, at, Deed::Preview, t),
+        Kind::Tg => read_entry(c, 0, Status::Trusted, t),
+        Kind::St => read_revision(c, 0, Revision::Remove(Status::Trusted), t),
+        Kind::Li => read_licence(c, 0, Deed::Issue, t),
+        Kind::Wd => read_licence(c, 0, Deed::Withdraw, t),
+        Kind::Qu => read_query(c, 0, t),
+        Kind::Pl => read_licence(c, 0, Deed::Provisional, t),
+        Kind::Cf => read_licence(c, 0, Deed::Confirm, t),
+        Kind::Pv => read_licence(c, 0, Deed::Preview, t),
     }
+}
+
+// What was found in a content of len bytes, where it ended at n: it must end with them.
+fn ending(t: Table, len: usize, n: usize, u: Table, found: Found) -> Reading
+    requires { ⌜ len ≤ longest ⌝ }
+    ensures { λ r. ⌜ r ≡ ending t len n (record { table = u; found = found }) ⌝ }
+{
+    if n == len {
+        return Reading { table: u, found };
+    }
+    refused(t, frames::HEADER + len, Refusal::CONTENT)
+}
+
+// A fault's number in a content: a byte that is missing there is one beyond the stated length.
+fn beyond(k: u8) -> u8
+    ensures { λ r. ⌜ r ≡ cond (eqb k 1) 10 k ⌝ }
+{
+    if k == Refusal::MISSING {
+        return Refusal::CONTENT;
+    }
+    k
+}
+
+// What was found in a content of len bytes, over the table t, as that of the whole record.
+fn whole(t: Table, len: usize, r: Reading) -> Reading
+    requires { ⌜ len ≤ longest ⌝ }
+    ensures { λ x. ⌜ x ≡ numWhole t len r ⌝ }
+{
+    let u = r.table;
+    let f = r.found;
+    let used = frames::HEADER + len;
+    match f {
+        Found::Asks(q, n) => ending(t, len, n, u, Found::Asks(q, used)),
+        Found::Full(n) => ending(t, len, n, u, Found::Full(used)),
+        Found::Unknown(n) => ending(t, len, n, u, Found::Unknown(used)),
+        Found::Refused(k, _) => refused(t, used, beyond(k)),
+    }
+}
+
+// A record of kind k whose content of len bytes is there.
+fn read_framed(k: Kind, s: &[u8], len: usize, t: Table) -> Reading
+    requires { ⌜ (t .count ≤ grants) × (4 + len ≤ length (now s)) × (len ≤ longest) ⌝ }
+    ensures { λ r. ⌜ r ≡ numWhole t len (numContent k (take len (drop 4 (now (s .entry)))) t) ⌝ }
+{
+    let start = frames::HEADER;
+    let end = frames::HEADER + len;
+    let r = read_content(k, &s[start..end], t);
+    whole(t, len, r)
 }
 
 // The record that s starts with, over a table of grants numbered before.
@@ -319,10 +271,10 @@ pub fn read_record(s: &[u8], t: Table) -> Reading
     ensures { λ r. ⌜ Reads (now (s .entry)) t r ⌝ }
 {
     if Table::ROWS < t.count {
-        return refused(t, Refusal::FORM);
+        return refused(t, 0, Refusal::FORM);
     }
-    match read_mark(s) {
-        MarkOut::No(k) => refused(t, k),
-        MarkOut::Got(k, n) => read_content(k, s, n, t),
+    match frames::read_frame(s) {
+        FrameOut::No(k) => refused(t, 0, k),
+        FrameOut::Got(k, len) => read_framed(k, s, len, t),
     }
 }

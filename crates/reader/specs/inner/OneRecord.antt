@@ -1,8 +1,9 @@
 -- Reading a record over a table, as the code does it.
-use Prim.Native.Nat.{ℕ, _-_}
+use Prim.Native.Nat.{ℕ, _+_, _-_}
 use mathlib.Core.List.{List}
 use mathlib.Core.Bool.{Bool, false, cond}
-use lib.Dec.{leb}
+use lib.ListN.{length}
+use lib.Dec.{leb, eqb}
 use Rattle.sorts.specs.declared.GrantNo.{GrantNo}
 use Rattle.sorts.specs.declared.Prin.{Prin}
 use Rattle.sorts.specs.Numbers.{speakers}
@@ -10,10 +11,8 @@ use Rattle.rows.specs.declared.Table.{Table}
 use Rattle.rows.specs.declared.Numbering.{Numbering}
 use Rattle.grants.specs.declared.GrantReading.{GrantReading}
 use Rattle.grants.specs.declared.ConclReading.{ConclReading}
-use Rattle.reader.specs.declared.records.Kind.{Kind}
-use Rattle.reader.specs.declared.records.Kind.the-variants.{Tg, St, Li, Wd, Qu, Pl, Cf, Pv}
-use Rattle.reader.specs.declared.records.MarkOut.{MarkOut}
-use Rattle.reader.specs.declared.records.MarkOut.the-variants as mark
+use Rattle.frames.specs.declared.Kind.{Kind}
+use Rattle.frames.specs.declared.Kind.the-variants.{Tg, St, Li, Wd, Qu, Pl, Cf, Pv}
 use Rattle.sorts.specs.declared.Status.{Status}
 use Rattle.sorts.specs.declared.Status.the-variants.{Trusted, Issued, Provisional}
 use Rattle.reader.specs.declared.records.Request.{Request}
@@ -26,7 +25,8 @@ use Rattle.reader.specs.declared.records.Found.{Found}
 use Rattle.reader.specs.declared.records.Found.the-variants.{Asks, Full, Unknown, Refused}
 use Rattle.reader.specs.declared.records.Reading.{Reading}
 use Rattle.ranges.specs.Bytes.{Outcome, got, refused, upto}
-use Rattle.reader.specs.Records.{nothingDeclared, readMark}
+use Rattle.frames.specs.Frames.{Frame, holds, ends, frame}
+use Rattle.reader.specs.Records.{nothingDeclared}
 use Rattle.grants.specs.inner.OnePass.{onOutcome, onGrant, onConcl}
 use Rattle.canonread.specs.inner.Again.{numForm, numConclForm}
 
@@ -34,19 +34,16 @@ use Rattle.canonread.specs.inner.Again.{numForm, numConclForm}
 abbrev pub starting : Table → Numbering
 starting t = record { table = t; full = false }
 
-unfoldable pub asMark : Outcome Kind → MarkOut
-asMark (got k n) = mark.Got k n
-asMark (refused k) = mark.No k
-
-abbrev pub noR : Table → ℕ → Reading
-noR t k = record { table = t; found = Refused k }
+-- a refusal that uses n bytes, and one that uses none
+abbrev pub noR : Table → ℕ → ℕ → Reading
+noR t n k = record { table = t; found = Refused k n }
 
 -- a request with its grants numbered; nothing is numbered where the numbers do not reach
 unfoldable pub given : Table → Numbering → Request → ℕ → Reading
 given t u q n = cond (u .full) (record { table = t; found = Full n }) (record { table = u .table; found = Asks q n })
 
 abbrev pub entryOf : Status → Table → GrantReading → Reading
-entryOf by t r = onGrant (r .out) (noR t) (λ g n. given t (r .numbering) (Enter by g) n)
+entryOf by t r = onGrant (r .out) (noR t 0) (λ g n. given t (r .numbering) (Enter by g) n)
 
 unfoldable pub numEntry : Status → List ℕ → ℕ → Table → Reading
 numEntry by s at t = entryOf by t (numForm s at (starting t))
@@ -62,13 +59,13 @@ unfoldable pub known : ℕ → Bool → Revision → GrantNo → ℕ → Found
 known count full v g n = cond full (Unknown n) (cond (leb count (g .0)) (Unknown n) (Asks (asked v g) n))
 
 abbrev pub revisionOf : Revision → Table → GrantReading → Reading
-revisionOf v t r = onGrant (r .out) (noR t) (λ g n. record { table = t; found = known (t .count) (r .numbering .full) v g n })
+revisionOf v t r = onGrant (r .out) (noR t 0) (λ g n. record { table = t; found = known (t .count) (r .numbering .full) v g n })
 
 unfoldable pub numRevision : Revision → List ℕ → ℕ → Table → Reading
 numRevision v s at t = revisionOf v t (numForm s at (starting t))
 
 abbrev pub queryOf : Table → ConclReading → Reading
-queryOf t r = onConcl (r .out) (noR t) (λ c n. given t (r .numbering) (Query c) n)
+queryOf t r = onConcl (r .out) (noR t 0) (λ c n. given t (r .numbering) (Query c) n)
 
 unfoldable pub numQuery : List ℕ → ℕ → Table → Reading
 numQuery s at t = queryOf t (numConclForm nothingDeclared s at (starting t))
@@ -82,18 +79,36 @@ numLicensed deed.Confirm p s at t = numRevision (revision.Confirm p) s at t
 numLicensed deed.Preview p s at t = numRevision (revision.Preview p) s at t
 
 unfoldable pub numLicence : Deed → List ℕ → ℕ → Table → Reading
-numLicence d s at t = onOutcome (upto (speakers - 1) s at) (noR t) (λ p n. numLicensed d (record { 0 = p }) s n t)
+numLicence d s at t = onOutcome (upto (speakers - 1) s at) (noR t 0) (λ p n. numLicensed d (record { 0 = p }) s n t)
 
-unfoldable pub numContent : Kind → List ℕ → ℕ → Table → Reading
-numContent Tg s at t = numEntry Trusted s at t
-numContent St s at t = numRevision (revision.Remove Trusted) s at t
-numContent Li s at t = numLicence deed.Issue s at t
-numContent Wd s at t = numLicence deed.Withdraw s at t
-numContent Qu s at t = numQuery s at t
-numContent Pl s at t = numLicence deed.Provisional s at t
-numContent Cf s at t = numLicence deed.Confirm s at t
-numContent Pv s at t = numLicence deed.Preview s at t
+unfoldable pub numContent : Kind → List ℕ → Table → Reading
+numContent Tg c t = numEntry Trusted c 0 t
+numContent St c t = numRevision (revision.Remove Trusted) c 0 t
+numContent Li c t = numLicence deed.Issue c 0 t
+numContent Wd c t = numLicence deed.Withdraw c 0 t
+numContent Qu c t = numQuery c 0 t
+numContent Pl c t = numLicence deed.Provisional c 0 t
+numContent Cf c t = numLicence deed.Confirm c 0 t
+numContent Pv c t = numLicence deed.Preview c 0 t
 
--- a record over a table of at most 64 rows
+-- what was found in a content of len bytes, where it ended at n; the table before was t
+abbrev pub ending : Table → ℕ → ℕ → Reading → Reading
+ending t len n r = cond (eqb n len) r (noR t (4 + len) 10)
+
+-- the same as found of the whole record, where u is the table after
+abbrev pub wholeOf : Table → ℕ → Table → Found → Reading
+wholeOf t len u (Asks q n) = ending t len n (record { table = u; found = Asks q (4 + len) })
+wholeOf t len u (Full n) = ending t len n (record { table = u; found = Full (4 + len) })
+wholeOf t len u (Unknown n) = ending t len n (record { table = u; found = Unknown (4 + len) })
+wholeOf t len u (Refused k n) = noR t (4 + len) (cond (eqb k 1) 10 k)
+
+unfoldable pub numWhole : Table → ℕ → Reading → Reading
+numWhole t len r = wholeOf t len (r .table) (r .found)
+
+-- a record in its frame, over a table of at most 64 rows
+abbrev pub numFramed : Table → Frame → Reading
+numFramed t (holds k c) = numWhole t (length c) (numContent k c t)
+numFramed t (ends j) = noR t 0 j
+
 unfoldable pub numRecord : List ℕ → Table → Reading
-numRecord s t = onOutcome (readMark s) (noR t) (λ k n. numContent k s n t)
+numRecord s t = numFramed t (frame s)

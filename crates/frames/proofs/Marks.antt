@@ -9,14 +9,13 @@ use lib.ListN.{length, getD, drop}
 use lib.Seq.{drop-cons}
 use lib.Dec.{ltb}
 use borrow.Author.Tests.{lt-ltb, le-ltb}
-use Rattle.rows.specs.declared.Table.{Table}
-use Rattle.reader.specs.declared.records.Kind.{Kind}
-use Rattle.reader.specs.declared.records.Kind.the-variants.{Tg}
-use Rattle.reader.specs.declared.records.MarkOut.{MarkOut}
-use Rattle.reader.specs.declared.records.MarkOut.the-variants as mark
+use Rattle.frames.specs.declared.Kind.{Kind}
+use Rattle.frames.specs.declared.Kind.the-variants.{Tg}
+use Rattle.frames.specs.declared.MarkOut.{MarkOut}
+use Rattle.frames.specs.declared.MarkOut.the-variants as mark
 use Rattle.ranges.specs.Bytes.{Outcome, got, refused, andThen, byteAt}
-use Rattle.reader.specs.Records.{kinds, opens, kindWith, readMark}
-use Rattle.reader.specs.inner.OneRecord.{asMark, noR, numContent, numRecord}
+use Rattle.frames.specs.Frames.{kinds, opens, kindWith, readMark}
+use Rattle.frames.specs.inner.Told.{asMark}
 
 -- Looking a kind up among those from place i on.
 module _ (a b n i : ℕ) (l : i < length kinds) where
@@ -62,13 +61,3 @@ pub mark-no : (o : Outcome Kind) (k : ℕ) → asMark o ≡ mark.No k → o ≡ 
 unfolding asMark
 mark-no (got j m) k e = let z : _≡_ {A = ℕ} 0 1 = cc in absurd (omega arith)
 mark-no (refused j) k e = cc
-
--- and so what the record's answer is
-
-pub record-no : (s : List ℕ) (t : Table) (k : ℕ) → asMark (readMark s) ≡ mark.No k → noR t k ≡ numRecord s t
-unfolding numRecord
-record-no s t k e = rw (mark-no (readMark s) k e)
-
-pub record-got : (s : List ℕ) (t : Table) (k : Kind) (n : ℕ) → asMark (readMark s) ≡ mark.Got k n → numContent k s n t ≡ numRecord s t
-unfolding numRecord
-record-got s t k n e = rw (mark-got (readMark s) k n e)

@@ -1,7 +1,7 @@
 use borrow.Author.Tests.{eq-eqb, ne-eqb}
 use borrow.Author.Needs.{needs}
-use Rattle.reader.proofs.records.Kind.opens.Statement.{statement}
-use Rattle.reader.proofs.records.Kind.opens.Tie as tie
+use Rattle.frames.proofs.Kind.opens.Statement.{statement}
+use Rattle.frames.proofs.Kind.opens.Tie as tie
 
 letters-requires : tie.Need-letters-requires
 letters-requires c κs = search needs

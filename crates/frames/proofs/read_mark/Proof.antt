@@ -1,7 +1,7 @@
-use Rattle.reader.proofs.Marks.{mark-short, mark-long}
+use Rattle.frames.proofs.Marks.{mark-short, mark-long}
 use borrow.Author.Needs.{needs}
-use Rattle.reader.proofs.records.read_mark.Statement.{statement}
-use Rattle.reader.proofs.records.read_mark.Tie as tie
+use Rattle.frames.proofs.read_mark.Statement.{statement}
+use Rattle.frames.proofs.read_mark.Tie as tie
 
 returns : tie.Need-returns
 returns c = mark-short _ ((c .if1) .taken)

@@ -1,12 +1,12 @@
 use Prim.Native.Nat.{_≤_, _-_}
 use mathlib.Core.Path.{_≡_, refl, sym, ap, _∙_}
 use lib.ListN.{length, drop}
-use Rattle.reader.specs.Records.{kinds, kindWith}
-use Rattle.reader.specs.inner.OneRecord.{asMark}
-use Rattle.reader.proofs.Marks.{kind-here, kind-on, kind-end}
+use Rattle.frames.specs.Frames.{kinds, kindWith}
+use Rattle.frames.specs.inner.Told.{asMark}
+use Rattle.frames.proofs.Marks.{kind-here, kind-on, kind-end}
 use borrow.Author.Needs.{needs}
-use Rattle.reader.proofs.records.kind_of.Statement.{statement}
-use Rattle.reader.proofs.records.kind_of.Tie as tie
+use Rattle.frames.proofs.kind_of.Statement.{statement}
+use Rattle.frames.proofs.kind_of.Tie as tie
 
 abbrev Inv-loop : tie.InvT-loop
 Inv-loop a b n all i₀ i = (i ≤ length kinds) × (kindWith kinds a b n ≡ kindWith (drop i kinds) a b n)

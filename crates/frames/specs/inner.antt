@@ -1,0 +1,2 @@
+-- Definitions that contracts of functions cite, and no demand.
+pub mod Told
