@@ -19,6 +19,7 @@ use Rattle.rows.proofs.Place.{Distinct, has-lt}
 use Rattle.rows.proofs.Shown.{form-shown, out-length}
 use Rattle.rows.proofs.Appended.{Ext, ext-refl, ext-length, number-ext, concl-more}
 use Rattle.ranges.specs.Bytes.{Outcome, got, refused}
+use Rattle.frames.specs.Frames.{extent}
 use Rattle.reader.specs.Records.{Record, enter, remove, confirm, preview, query, readCanonical}
 use Rattle.reader.specs.Requests.{fits, foundOf, numberedBy, Reads}
 use Rattle.reader.specs.declared.records.Request.the-variants.{Enter, Remove, Confirm, Preview, Query}
@@ -273,7 +274,7 @@ module _ (b : Book) (m k v s : List ℕ) (f : BookForm b m k) (vl : length v ≡
     query-steps c own n rows′ false e = refused-steps 6 n
 
     record-steps : (q : Record) (n : ℕ) → readCanonical s ≡ got q n → Follows M (act M q n) b m k v
-        (appliedTo b m k (r .table) (foundOf N (got q n))) (marksAppliedTo firmMarks b m (r .table) (foundOf N (got q n))) (marksAppliedTo bothMarks b k (r .table) (foundOf N (got q n))) (previewAppliedTo b v (foundOf N (got q n)))
+        (appliedTo b m k (r .table) (foundOf N (extent s) (got q n))) (marksAppliedTo firmMarks b m (r .table) (foundOf N (extent s) (got q n))) (marksAppliedTo bothMarks b k (r .table) (foundOf N (extent s) (got q n))) (previewAppliedTo b v (foundOf N (extent s) (got q n)))
     unfolding act foundOf numberedBy AllowedRecord
     record-steps (enter by g) n e =
         enter-steps by (canonical-exact s (enter by g) n e .0 .0) g (canonical-exact s (enter by g) n e .1) n
@@ -284,15 +285,15 @@ module _ (b : Book) (m k v s : List ℕ) (f : BookForm b m k) (vl : length v ≡
     record-steps (query c) n e =
         query-steps c (canonical-exact s (query c) n e .1) n (λ d. R .rows (f .table) ∙ ap (numberedBy N) e ∙ ap (λ (x : Bool). cond x (numberConcl c N) N) d) (fits (numberConcl c N)) refl
 
-    outcome-steps : (o : Outcome Record) → readCanonical s ≡ o → Follows M (acted M o) b m k v
-        (appliedTo b m k (r .table) (foundOf N o)) (marksAppliedTo firmMarks b m (r .table) (foundOf N o)) (marksAppliedTo bothMarks b k (r .table) (foundOf N o)) (previewAppliedTo b v (foundOf N o))
+    outcome-steps : (o : Outcome Record) → readCanonical s ≡ o → Follows M (acted M (extent s) o) b m k v
+        (appliedTo b m k (r .table) (foundOf N (extent s) o)) (marksAppliedTo firmMarks b m (r .table) (foundOf N (extent s) o)) (marksAppliedTo bothMarks b k (r .table) (foundOf N (extent s) o)) (previewAppliedTo b v (foundOf N (extent s) o))
     unfolding foundOf
     outcome-steps (got q n) e = record-steps q n e
-    outcome-steps (refused j) e = refused-steps j 0
+    outcome-steps (refused j) e = refused-steps j (extent s)
 
-    all-steps : Follows M (acted M (readCanonical s)) b m k v (appliedTo b m k (r .table) (r .found)) (marksAppliedTo firmMarks b m (r .table) (r .found)) (marksAppliedTo bothMarks b k (r .table) (r .found)) (previewAppliedTo b v (r .found))
+    all-steps : Follows M (acted M (extent s) (readCanonical s)) b m k v (appliedTo b m k (r .table) (r .found)) (marksAppliedTo firmMarks b m (r .table) (r .found)) (marksAppliedTo bothMarks b k (r .table) (r .found)) (previewAppliedTo b v (r .found))
     all-steps =
-        subst (λ (x : Found). Follows M (acted M (readCanonical s)) b m k v (appliedTo b m k (r .table) x) (marksAppliedTo firmMarks b m (r .table) x) (marksAppliedTo bothMarks b k (r .table) x) (previewAppliedTo b v x))
+        subst (λ (x : Found). Follows M (acted M (extent s) (readCanonical s)) b m k v (appliedTo b m k (r .table) x) (marksAppliedTo firmMarks b m (r .table) x) (marksAppliedTo bothMarks b k (r .table) x) (previewAppliedTo b v x))
         (sym (R .found (f .table))) (outcome-steps (readCanonical s) refl)
 
     follows-at : Follows M (step M s) b m k v (applied b m k r) (marksApplied firmMarks b m r) (marksApplied bothMarks b k r) (previewApplied b v r)

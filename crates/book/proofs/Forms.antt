@@ -28,6 +28,7 @@ use Rattle.rows.specs.Allowed.{AllowedConcl}
 use Rattle.rows.proofs.Place.{has-in, has-lt}
 use Rattle.rows.proofs.Shown.{length-more}
 use Rattle.ranges.specs.Bytes.{Outcome, got, refused}
+use Rattle.frames.specs.Frames.{extent}
 use Rattle.reader.specs.Records.{Record, enter, remove, confirm, preview, query, readCanonical}
 use Rattle.reader.specs.Requests.{fits, foundOf}
 use Rattle.reader.specs.declared.records.Request.the-variants.{Enter, Remove, Confirm, Preview, Query}
@@ -137,18 +138,18 @@ module _ (N : List Grant) (small : length N ≤ grants) where
   query-fits c n a true e = let l = number-lt (conclOf (numberConcl c N) c) (concl-closed c N a e) in omega arith
   query-fits c n a false e = tt
 
-  record-fits : (q : Record) (n : ℕ) → AllowedRecord q → FoundFits (foundOf N (got q n))
+  record-fits : (s : List ℕ) (q : Record) (n : ℕ) → AllowedRecord q → FoundFits (foundOf N (extent s) (got q n))
   unfolding foundOf AllowedRecord
-  record-fits (enter by g) n a = entering-fits by (a .0) g n (fits (number g N)) refl
-  record-fits (remove by g) n a = removing-fits by (firm-status by (a .0)) g n (has g N) refl
-  record-fits (confirm p g) n a = confirming-fits p (a .0) g n (has g N) refl
-  record-fits (preview p g) n a = previewing-fits p (a .0) g n (has g N) refl
-  record-fits (query c) n a = query-fits c n (a .0) (fits (numberConcl c N)) refl
+  record-fits s (enter by g) n a = entering-fits by (a .0) g n (fits (number g N)) refl
+  record-fits s (remove by g) n a = removing-fits by (firm-status by (a .0)) g n (has g N) refl
+  record-fits s (confirm p g) n a = confirming-fits p (a .0) g n (has g N) refl
+  record-fits s (preview p g) n a = previewing-fits p (a .0) g n (has g N) refl
+  record-fits s (query c) n a = query-fits c n (a .0) (fits (numberConcl c N)) refl
 
-  pub found-fits : (s : List ℕ) → FoundFits (foundOf N (readCanonical s))
+  pub found-fits : (s : List ℕ) → FoundFits (foundOf N (extent s) (readCanonical s))
   unfolding foundOf
   found-fits s = go (readCanonical s) refl
     where
-      go : (o : Outcome Record) → readCanonical s ≡ o → FoundFits (foundOf N o)
-      go (got q n) e = record-fits q n (canonical-exact s q n e .0)
+      go : (o : Outcome Record) → readCanonical s ≡ o → FoundFits (foundOf N (extent s) o)
+      go (got q n) e = record-fits s q n (canonical-exact s q n e .0)
       go (refused k) e = tt

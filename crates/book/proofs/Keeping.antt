@@ -40,4 +40,4 @@ pub turned-back : (b : Book) (m l : List ℕ) (t : Table) (f : Found) (k : ℕ) 
 turned-back b m l t (found.Asks q n) k e = let z : _≡_ {A = ℕ} 0 1 = cc in absurd (omega arith)
 turned-back b m l t (found.Full n) k e = let d : 6 ≡ k = cc in ap (λ (j : ℕ). refusedWith b j n) d
 turned-back b m l t (found.Unknown n) k e = let d : 7 ≡ k = cc in ap (λ (j : ℕ). refusedWith b j n) d
-turned-back b m l t (found.Refused j) k e = let d : j ≡ k = cc in ap (λ (i : ℕ). refusedWith b i 0) d
+turned-back b m l t (found.Refused j n) k e = let d : j ≡ k = cc in ap (λ (i : ℕ). refusedWith b i n) d

@@ -15,6 +15,7 @@ use Rattle.rows.specs.Written.{Grant}
 use Rattle.rows.specs.Numbering.{has, number}
 use Rattle.rows.proofs.Known.{numbered-known}
 use Rattle.ranges.specs.Bytes.{got}
+use Rattle.frames.specs.Frames.{extent}
 use Rattle.reader.specs.Records.{enter, readCanonical}
 use Rattle.reader.specs.Requests.{fits}
 use Rattle.machine.specs.Machine.{State, Verdict, Step, changes, change, refuse, act, acted, step, feed, entered, stands}
@@ -78,7 +79,7 @@ module _ {b : Book} {m k v s : List ℕ} {r : Answered} {n l w : List ℕ} {M : 
       numbered = known g t
 
       all : step M s ≡ record { next = M; says = changes; used = u }
-      all = ap (acted M) e ∙ ap (λ (c : Bool). cond c (change (entered by g (M .entries)) (number g (M .N)) u) (refuse M 6 u)) (ap (λ (x : List Grant). fits x) numbered ∙ room) ∙
+      all = ap (acted M (extent s)) e ∙ ap (λ (c : Bool). cond c (change (entered by g (M .entries)) (number g (M .N)) u) (refuse M 6 u)) (ap (λ (x : List Grant). fits x) numbered ∙ room) ∙
           (λ i. change (same i) (numbered i) u)
 
   pub enter-again : (by : Status) (g : Grant) (u : ℕ) → readCanonical s ≡ got (enter by g) u → stands M by g ≡ true → Idle

@@ -17,6 +17,7 @@ use Rattle.rows.specs.Numbering.{place, number, numberConcl}
 use Rattle.ranges.specs.Bytes.{Outcome, got, refused}
 use Rattle.canon.specs.Canon.{canon, same}
 use Rattle.canon.proofs.Sets.{same-canon}
+use Rattle.frames.specs.Frames.{extent}
 use Rattle.reader.specs.Records.{Record, enter, remove, confirm, preview, query, readRecord, readCanonical, canonRecord}
 use Rattle.reader.specs.Requests.{fits}
 use Rattle.exact.proofs.CanonicalRecords.{canonical-of}
@@ -78,15 +79,15 @@ act-same M (confirm p g) m n = picked (stands M (Provisional p) g) _ _ _ _ itsel
 act-same M (preview p g) m n = picked (there (Issued p) g (M .entries)) _ _ _ _ itself itself
 act-same M (query c) m n = picked (fits (numberConcl c (M .N))) _ _ _ _ itself itself
 
-acted-same : (M : State) (o p : Outcome Record) → asked o ≡ asked p → SameStep (acted M o) (acted M p)
-acted-same M (got r m) (got q n) e = let d : r ≡ q = cc in subst (λ (x : Record). SameStep (act M r m) (act M x n)) d (act-same M r m n)
-acted-same M (got r m) (refused k) e = let z : _≡_ {A = ℕ} 0 1 = cc in absurd (omega arith)
-acted-same M (refused j) (got r n) e = let z : _≡_ {A = ℕ} 0 1 = cc in absurd (omega arith)
-acted-same M (refused j) (refused k) e = let d : j ≡ k = cc in subst (λ (i : ℕ). SameStep (acted M (refused j)) (acted M (refused i))) d itself
+acted-same : (M : State) (u v : ℕ) (o p : Outcome Record) → asked o ≡ asked p → SameStep (acted M u o) (acted M v p)
+acted-same M u v (got r m) (got q n) e = let d : r ≡ q = cc in subst (λ (x : Record). SameStep (act M r m) (act M x n)) d (act-same M r m n)
+acted-same M u v (got r m) (refused k) e = let z : _≡_ {A = ℕ} 0 1 = cc in absurd (omega arith)
+acted-same M u v (refused j) (got r n) e = let z : _≡_ {A = ℕ} 0 1 = cc in absurd (omega arith)
+acted-same M u v (refused j) (refused k) e = let d : j ≡ k = cc in subst (λ (i : ℕ). SameStep (refuse M j u) (refuse M i v)) d itself
 
 step-same : (M : State) (s t : List ℕ) → Alike s t → SameStep (step M s) (step M t)
 unfolding step
-step-same M s t e = acted-same M (readCanonical s) (readCanonical t) e
+step-same M s t e = acted-same M (extent s) (extent t) (readCanonical s) (readCanonical t) e
 
 feed-same : (M : State) (u v : ℕ) (s t : List ℕ) → u ≡ v → Alike s t → SameStep (feed M u s) (feed M v t)
 unfolding feed

@@ -4,7 +4,7 @@ use mathlib.Core.Path.{_≡_, refl, sym, ap, subst, _∙_}
 use mathlib.Core.Bool.{Bool, true, false, cond}
 use mathlib.Core.List.{List}
 use mathlib.Core.Option.{some}
-use mathlib.Core.Logic.{_↔_, _⊎_, inl, inr}
+use mathlib.Core.Logic.{_↔_, _⊎_, inl, inr, ⊎-elim}
 use native.Mathlib.Omega.{arith}
 use lib.IntN.{pos, _-ℤ_}
 use lib.ListN.{getD}
@@ -15,6 +15,7 @@ use Rattle.rows.specs.Written.{Grant}
 use Rattle.rows.specs.Numbering.{number, numberConcl}
 use Rattle.rows.proofs.Bytes.{no-true}
 use Rattle.ranges.specs.Bytes.{Outcome, got, refused}
+use Rattle.frames.specs.Frames.{extent}
 use Rattle.reader.specs.Records.{Record, enter, remove, confirm, preview, query, readCanonical}
 use Rattle.reader.specs.Requests.{fits}
 use Rattle.bookform.specs.declared.Book.{Book}
@@ -63,23 +64,23 @@ module _ (M : State) (k : ℕ) where
   accepts : (i : ℕ) → changes ≡ refuses i → ⊥
   accepts i e = let z : _≡_ {A = ℕ} 0 1 = cc in omega arith
 
-  turned : (o : Outcome Record) → (acted M o .says ≡ refuses k) ↔ Turned M o k
+  turned : (u : ℕ) (o : Outcome Record) → (acted M u o .says ≡ refuses k) ↔ Turned M o k
   unfolding act
-  turned (got (enter by g) n) = two _ accepts 6 n (fits (number g (M .N)))
-  turned (got (remove by g) n) = two _ accepts 7 n (there by g (M .entries))
-  turned (got (confirm p g) n) = two _ accepts 7 n (stands M (Provisional p) g)
-  turned (got (preview p g) n) = two _ (λ i e. let z : _≡_ {A = ℕ} 0 1 = cc in omega arith) 7 n (there (Issued p) g (M .entries))
-  turned (got (query c) n) = two _ (λ i e. let z : _≡_ {A = ℕ} 0 1 = cc in omega arith) 6 n (fits (numberConcl c (M .N)))
-  turned (refused j) = (λ e. let d : j ≡ k = cc in d, λ h. ap refuses h)
+  turned u (got (enter by g) n) = two _ accepts 6 n (fits (number g (M .N)))
+  turned u (got (remove by g) n) = two _ accepts 7 n (there by g (M .entries))
+  turned u (got (confirm p g) n) = two _ accepts 7 n (stands M (Provisional p) g)
+  turned u (got (preview p g) n) = two _ (λ i e. let z : _≡_ {A = ℕ} 0 1 = cc in omega arith) 7 n (there (Issued p) g (M .entries))
+  turned u (got (query c) n) = two _ (λ i e. let z : _≡_ {A = ℕ} 0 1 = cc in omega arith) 6 n (fits (numberConcl c (M .N)))
+  turned u (refused j) = (λ e. let d : j ≡ k = cc in d, λ h. ap refuses h)
 
-  -- a number that is said is 1 to 7
-  turned-range : (s : List ℕ) (o : Outcome Record) → readCanonical s ≡ o → Turned M o k → (1 ≤ k) × (k ≤ 7)
-  turned-range s (got (enter by g) n) e h = (omega (arith, h .1), omega (arith, h .1))
-  turned-range s (got (remove by g) n) e h = (omega (arith, h .1), omega (arith, h .1))
-  turned-range s (got (confirm p g) n) e h = (omega (arith, h .1), omega (arith, h .1))
-  turned-range s (got (preview p g) n) e h = (omega (arith, h .1), omega (arith, h .1))
-  turned-range s (got (query c) n) e h = (omega (arith, h .1), omega (arith, h .1))
-  turned-range s (refused j) e h = let f = fault-range s j (canonical-refused s j e) in (omega (arith, h, f .0), omega (arith, h, f .1))
+  -- a number that is said is 1 to 7, or 10
+  turned-range : (s : List ℕ) (o : Outcome Record) → readCanonical s ≡ o → Turned M o k → ((1 ≤ k) × (k ≤ 7)) ⊎ (k ≡ 10)
+  turned-range s (got (enter by g) n) e h = inl (omega (arith, h .1), omega (arith, h .1))
+  turned-range s (got (remove by g) n) e h = inl (omega (arith, h .1), omega (arith, h .1))
+  turned-range s (got (confirm p g) n) e h = inl (omega (arith, h .1), omega (arith, h .1))
+  turned-range s (got (preview p g) n) e h = inl (omega (arith, h .1), omega (arith, h .1))
+  turned-range s (got (query c) n) e h = inl (omega (arith, h .1), omega (arith, h .1))
+  turned-range s (refused j) e h = ⊎-elim (λ f. inl (omega (arith, h, f .0), omega (arith, h, f .1))) (λ f. inr (sym h ∙ f)) (fault-range s j (canonical-refused s j e))
 
 -- what the answer says, by the verdict
 
@@ -170,7 +171,7 @@ module _ {M : State} {b : Book} {m k v : List ℕ} (s : List ℕ) {r : Answered}
   answers : Answers M b m k v s r n l w
   unfolding step marksAfter secondAfter previewAfter
   answers = record {
-    refusals = λ j. both-ways (as-number j) (turned M j (readCanonical s));
+    refusals = λ j. both-ways (as-number j) (turned M j (extent s) (readCanonical s));
     permitted = both-ways (as-answer Permitted) (answer-asked m k n w Permitted tt _ (λ c. answer-yes (getD m c 0) (getD k c 0)) (step M s .says));
     undecided = both-ways (as-answer Open) (both-ways (answer-asked m k n w Open tt _ (λ c. answer-maybe (getD m c 0) (getD k c 0)) (step M s .says)) flat);
     notPermitted = both-ways (as-answer NotPermitted) (both-ways (answer-asked m k n w NotPermitted tt _ (λ c. answer-no (getD m c 0) (getD k c 0)) (step M s .says)) flat);
@@ -184,7 +185,7 @@ module _ {M : State} {b : Book} {m k v : List ℕ} (s : List ℕ) {r : Answered}
     untouched = λ x e.
         let y = as-previewed x .0 e in
         (F .untouched (y .0) (y .1) (y .2), F .marks ∙ ap (λ (z : Verdict). marksAfter z (r .book) m) (y .2), F .second ∙ ap (λ (z : Verdict). secondAfter z (r .book) k) (y .2));
-    numbered = λ j e. turned-range M j s (readCanonical s) refl (turned M j (readCanonical s) .0 (as-number j .0 e));
+    numbered = λ j e. turned-range M j s (readCanonical s) refl (turned M j (extent s) (readCanonical s) .0 (as-number j .0 e));
   }
 
 -- Every record of bytes and every lent book gets an answer, each under its condition and no other; a refused record leaves
@@ -194,19 +195,19 @@ demand-1 b m k v s r n l w C = record {
   unformed = C .unformed;
   formed = λ f M sh. answers s (C .formed f M sh);
   shown = λ f. shows-some b m k f;
-  nine = (λ e f. let h = in-range f 9 e in omega (arith, h .1), out);
+  nine = (λ e f. ⊎-elim (λ h. omega (arith, h .1)) (λ h. omega (arith, h)) (in-range f 9 e), out);
   numbered = by (C .decided);
   net = net-by (C .decided);
 }
   where
-    in-range : Lent b m k v → (j : ℕ) → worth (r .answer) .number ≡ some j → (1 ≤ j) × (j ≤ 7)
+    in-range : Lent b m k v → (j : ℕ) → worth (r .answer) .number ≡ some j → ((1 ≤ j) × (j ≤ 7)) ⊎ (j ≡ 10)
     in-range f = let x = shows-some b m k (f .book) in answers s (C .formed f (x .0) (x .1)) .numbered
 
     out : (Lent b m k v → ⊥) → worth (r .answer) .number ≡ some 9
     out d = ap (λ (x : Answered). worth (x .answer) .number) (C .unformed d .0)
 
-    by : Lent b m k v ⊎ (Lent b m k v → ⊥) → (j : ℕ) → worth (r .answer) .number ≡ some j → (1 ≤ j) × (j ≤ 9) × (j ≡ 8 → ⊥)
-    by (inl f) j e = let h = in-range f j e in (h .0, omega (arith, h .1), λ q. omega (arith, h .1, q))
+    by : Lent b m k v ⊎ (Lent b m k v → ⊥) → (j : ℕ) → worth (r .answer) .number ≡ some j → (1 ≤ j) × (j ≤ 10) × (j ≡ 8 → ⊥)
+    by (inl f) j e = ⊎-elim (λ h. (h .0, omega (arith, h .1), λ q. omega (arith, h .1, q))) (λ h. (omega (arith, h), omega (arith, h), λ q. omega (arith, h, q))) (in-range f j e)
     by (inr d) j e = let q : some 9 ≡ some j = sym (out d) ∙ e in let z : 9 ≡ j = cc in (omega (arith, z), omega (arith, z), λ x. omega (arith, z, x))
 
     net-by : Lent b m k v ⊎ (Lent b m k v → ⊥) → Net (r .answer)

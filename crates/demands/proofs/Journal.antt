@@ -10,7 +10,8 @@ use Rattle.rows.specs.Numbering.{place, has, add, number}
 use Rattle.ranges.specs.Bytes.{byteAt, upto, principal, pack, tag, header}
 use Rattle.grants.specs.Grants.{readProperty, readPacked, readIssue, readConcl, readConds, readWith, readGrant}
 use Rattle.canon.specs.Canon.{canon}
-use Rattle.reader.specs.Records.{readEntry, readLicence, readQuery, readContent, kindWith, readMark, readRecord, readCanonical}
+use Rattle.frames.specs.Frames.{kindWith, readMark, frame, extent}
+use Rattle.reader.specs.Records.{readEntry, readLicence, readQuery, readContent, readWhole, readRecord, readCanonical}
 use Rattle.bookform.specs.declared.Book.{Book}
 use Rattle.machine.specs.Machine.{State, Verdict, changes, asks, refuses, Entry, start, member, insert, delete, act, step, feed}
 use Rattle.book.specs.Shows.{Shows}
@@ -21,13 +22,13 @@ use Rattle.demands.proofs.Demand3.{demand-3}
 -- the seven records
 abbrev pub journal : List (List ℕ)
 journal =
-    (84 ∷ 71 ∷ 0 ∷ 0 ∷ 0 ∷ 0 ∷ 0 ∷ 2 ∷ []) ∷
-    (76 ∷ 73 ∷ 0 ∷ 0 ∷ 0 ∷ 0 ∷ 0 ∷ 2 ∷ 2 ∷ []) ∷
-    (81 ∷ 85 ∷ 0 ∷ 2 ∷ 2 ∷ []) ∷
-    (84 ∷ 71 ∷ 0 ∷ 0 ∷ 0 ∷ 1 ∷ 0 ∷ 0 ∷ 0 ∷ 0 ∷ 0 ∷ 0 ∷ 2 ∷ 2 ∷ []) ∷
-    (81 ∷ 85 ∷ 0 ∷ 2 ∷ 2 ∷ []) ∷
-    (87 ∷ 68 ∷ 0 ∷ 0 ∷ 0 ∷ 0 ∷ 0 ∷ 2 ∷ 2 ∷ []) ∷
-    (87 ∷ 68 ∷ 0 ∷ 0 ∷ 0 ∷ 0 ∷ 0 ∷ 2 ∷ 2 ∷ []) ∷ []
+    (116 ∷ 103 ∷ 0 ∷ 6 ∷ 0 ∷ 0 ∷ 0 ∷ 0 ∷ 0 ∷ 2 ∷ []) ∷
+    (108 ∷ 105 ∷ 0 ∷ 7 ∷ 0 ∷ 0 ∷ 0 ∷ 0 ∷ 0 ∷ 2 ∷ 2 ∷ []) ∷
+    (113 ∷ 117 ∷ 0 ∷ 3 ∷ 0 ∷ 2 ∷ 2 ∷ []) ∷
+    (116 ∷ 103 ∷ 0 ∷ 12 ∷ 0 ∷ 0 ∷ 0 ∷ 1 ∷ 0 ∷ 0 ∷ 0 ∷ 0 ∷ 0 ∷ 0 ∷ 2 ∷ 2 ∷ []) ∷
+    (113 ∷ 117 ∷ 0 ∷ 3 ∷ 0 ∷ 2 ∷ 2 ∷ []) ∷
+    (119 ∷ 100 ∷ 0 ∷ 7 ∷ 0 ∷ 0 ∷ 0 ∷ 0 ∷ 0 ∷ 2 ∷ 2 ∷ []) ∷
+    (119 ∷ 100 ∷ 0 ∷ 7 ∷ 0 ∷ 0 ∷ 0 ∷ 0 ∷ 0 ∷ 2 ∷ 2 ∷ []) ∷ []
 
 -- what the machine says of a list of records
 unfoldable pub verdicts : State → List (List ℕ) → List Verdict
@@ -35,7 +36,7 @@ verdicts M [] = []
 verdicts M (s ∷ ss) = feed M allMarks s .says ∷ verdicts (feed M allMarks s .next) ss
 
 opened : State → List (List ℕ) → List Verdict
-unfolding byteAt upto principal pack tag header readProperty readPacked readIssue readConcl readConds readWith readGrant readEntry readLicence readQuery readContent kindWith readMark readRecord canon readCanonical written sameBytes sameWritten place has add number member insert delete act step feed runs verdicts
+unfolding byteAt upto principal pack tag header readProperty readPacked readIssue readConcl readConds readWith readGrant readEntry readLicence readQuery readContent readWhole kindWith readMark frame extent readRecord canon readCanonical written sameBytes sameWritten place has add number member insert delete act step feed runs verdicts
 opened M ss = verdicts M ss
 
 pub journal-verdicts : verdicts start journal ≡ changes ∷ changes ∷ asks 290 ∷ changes ∷ asks 290 ∷ changes ∷ refuses 7 ∷ []

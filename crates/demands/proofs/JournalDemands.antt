@@ -1,5 +1,5 @@
--- Demands 2 and 3 on document 01's own journal, whatever calls have its records: gains less losses are 2, the LI loses nothing, the
--- WD gains nothing, and the queries have the answers that are printed.
+-- Demands 2 and 3 on document 01's own journal, whatever calls have its records: gains less losses are 2, the li loses nothing, the
+-- wd gains nothing, and the queries have the answers that are printed.
 use Prim.Native.Nat.{ℕ, zero, suc, _+_, _≤_, _<_}
 use mathlib.Core.Path.{_≡_, refl, sym, ap, subst, _∙_}
 use mathlib.Core.Bool.{Bool, true, false, cond, _&&_}
@@ -19,7 +19,8 @@ use Rattle.rows.proofs.Bytes.{no-true}
 use Rattle.ranges.specs.Bytes.{Outcome, got, byteAt, upto, principal, pack, tag, header}
 use Rattle.grants.specs.Grants.{readProperty, readPacked, readIssue, readConcl, readConds, readWith, readGrant}
 use Rattle.canon.specs.Canon.{canon}
-use Rattle.reader.specs.Records.{Record, enter, remove, readEntry, readLicence, readQuery, readContent, kindWith, readMark, readRecord, readCanonical}
+use Rattle.frames.specs.Frames.{kindWith, readMark, frame, extent}
+use Rattle.reader.specs.Records.{Record, enter, remove, readEntry, readLicence, readQuery, readContent, readWhole, readRecord, readCanonical}
 use Rattle.rules.specs.Rules.{resUnder, conclUnder, granted, issueMark, Values}
 use Rattle.rules.specs.Standing.{In, Bits}
 use Rattle.rules.proofs.Saturation.{same-marks, zeroes-none}
@@ -275,12 +276,12 @@ journal-sums cs b m k K e =
 
 -- THE ONE WAY: the second record, LI, loses nothing, and the sixth, WD, gains nothing.
 
-second-is : readCanonical (76 ∷ 73 ∷ 0 ∷ 0 ∷ 0 ∷ 0 ∷ 0 ∷ 2 ∷ 2 ∷ []) ≡ got (enter (Issued (record { 0 = 0 })) good) 9
-unfolding byteAt upto principal header readProperty readConcl readConds readWith readGrant readEntry readLicence readContent kindWith readMark readRecord canon readCanonical
+second-is : readCanonical (108 ∷ 105 ∷ 0 ∷ 7 ∷ 0 ∷ 0 ∷ 0 ∷ 0 ∷ 0 ∷ 2 ∷ 2 ∷ []) ≡ got (enter (Issued (record { 0 = 0 })) good) 11
+unfolding byteAt upto principal header readProperty readConcl readConds readWith readGrant readEntry readLicence readContent readWhole kindWith readMark frame extent readRecord canon readCanonical
 second-is = refl
 
-sixth-is : readCanonical (87 ∷ 68 ∷ 0 ∷ 0 ∷ 0 ∷ 0 ∷ 0 ∷ 2 ∷ 2 ∷ []) ≡ got (remove (Issued (record { 0 = 0 })) good) 9
-unfolding byteAt upto principal header readProperty readConcl readConds readWith readGrant readEntry readLicence readContent kindWith readMark readRecord canon readCanonical
+sixth-is : readCanonical (119 ∷ 100 ∷ 0 ∷ 7 ∷ 0 ∷ 0 ∷ 0 ∷ 0 ∷ 0 ∷ 2 ∷ 2 ∷ []) ≡ got (remove (Issued (record { 0 = 0 })) good) 11
+unfolding byteAt upto principal header readProperty readConcl readConds readWith readGrant readEntry readLicence readContent readWhole kindWith readMark frame extent readRecord canon readCanonical
 sixth-is = refl
 
 pub journal-one-way : (a b c d e f g : Call) (t : Book) (m k : List ℕ) → Chain freshBook freshMarks freshMarks (a ∷ b ∷ c ∷ d ∷ e ∷ f ∷ g ∷ []) t m k →
@@ -288,18 +289,18 @@ pub journal-one-way : (a b c d e f g : Call) (t : Book) (m k : List ℕ) → Cha
 unfolding records AllOneWay
 journal-one-way a b c d e f g t m k K h =
     let W = demand-3 (a ∷ b ∷ c ∷ d ∷ e ∷ f ∷ g ∷ []) t m k K .oneWay in
-    let li : readCanonical (b .record′) ≡ got (enter (Issued (record { 0 = 0 })) good) 9 = ap (λ (l : List Fed). readCanonical (getD l 1 (whole []) .bytes)) h ∙ second-is in
-    let wd : readCanonical (f .record′) ≡ got (remove (Issued (record { 0 = 0 })) good) 9 = ap (λ (l : List Fed). readCanonical (getD l 5 (whole []) .bytes)) h ∙ sixth-is in
+    let li : readCanonical (b .record′) ≡ got (enter (Issued (record { 0 = 0 })) good) 11 = ap (λ (l : List Fed). readCanonical (getD l 1 (whole []) .bytes)) h ∙ second-is in
+    let wd : readCanonical (f .record′) ≡ got (remove (Issued (record { 0 = 0 })) good) 11 = ap (λ (l : List Fed). readCanonical (getD l 5 (whole []) .bytes)) h ∙ sixth-is in
     (subst (λ (o : Outcome Record). OneWay o b) li (W .1 .0), subst (λ (o : Outcome Record). OneWay o f) wd (W .1 .1 .1 .1 .1 .0))
 
 -- THE ANSWERS: Good(2) is not permitted at the third record, and permitted at the fifth.
 
-third-asks : feed (runs start (take 2 (map whole journal))) allMarks (getD journal 2 []) ≡ record { next = first; says = asks 290; used = 5 }
-unfolding byteAt upto principal pack tag header readProperty readPacked readIssue readConcl readConds readWith readGrant readEntry readLicence readQuery readContent kindWith readMark readRecord canon readCanonical written sameBytes sameWritten place has add number member insert delete act step feed runs
+third-asks : feed (runs start (take 2 (map whole journal))) allMarks (getD journal 2 []) ≡ record { next = first; says = asks 290; used = 7 }
+unfolding byteAt upto principal pack tag header readProperty readPacked readIssue readConcl readConds readWith readGrant readEntry readLicence readQuery readContent readWhole kindWith readMark frame extent readRecord canon readCanonical written sameBytes sameWritten place has add number member insert delete act step feed runs
 third-asks = refl
 
-fifth-asks : feed (runs start (take 4 (map whole journal))) allMarks (getD journal 4 []) ≡ record { next = second; says = asks 290; used = 5 }
-unfolding byteAt upto principal pack tag header readProperty readPacked readIssue readConcl readConds readWith readGrant readEntry readLicence readQuery readContent kindWith readMark readRecord canon readCanonical written sameBytes sameWritten place has add number member insert delete act step feed runs
+fifth-asks : feed (runs start (take 4 (map whole journal))) allMarks (getD journal 4 []) ≡ record { next = second; says = asks 290; used = 7 }
+unfolding byteAt upto principal pack tag header readProperty readPacked readIssue readConcl readConds readWith readGrant readEntry readLicence readQuery readContent readWhole kindWith readMark frame extent readRecord canon readCanonical written sameBytes sameWritten place has add number member insert delete act step feed runs
 fifth-asks = refl
 
 -- what is fed at a call
@@ -310,8 +311,8 @@ pub journal-answers : {a b c d e f g : Call} {t : Book} {m k : List ℕ} → Cha
     records (a ∷ b ∷ c ∷ d ∷ e ∷ f ∷ g ∷ []) ≡ map whole journal → (c .gave .answer ≡ NotPermitted) × (e .gave .answer ≡ Permitted)
 unfolding records
 journal-answers (then s1 v1 r1 n1 l1 w1 c1 (then s2 v2 r2 n2 l2 w2 c2 (then s3 v3 r3 n3 l3 w3 c3 (then s4 v4 r4 n4 l4 w4 c4 (then s5 v5 r5 n5 l5 w5 c5 K))))) h =
-    let third : feed (runs start (fedWith s1 v1 ∷ fedWith s2 v2 ∷ [])) (length v3) s3 ≡ record { next = first; says = asks 290; used = 5 } = ap (λ (l : List Fed). feed (runs start (take 2 l)) (getD l 2 (whole []) .room) (getD l 2 (whole []) .bytes)) h ∙ third-asks in
-    let fifth : feed (runs start (fedWith s1 v1 ∷ fedWith s2 v2 ∷ fedWith s3 v3 ∷ fedWith s4 v4 ∷ [])) (length v5) s5 ≡ record { next = second; says = asks 290; used = 5 } = ap (λ (l : List Fed). feed (runs start (take 4 l)) (getD l 4 (whole []) .room) (getD l 4 (whole []) .bytes)) h ∙ fifth-asks in (
+    let third : feed (runs start (fedWith s1 v1 ∷ fedWith s2 v2 ∷ [])) (length v3) s3 ≡ record { next = first; says = asks 290; used = 7 } = ap (λ (l : List Fed). feed (runs start (take 2 l)) (getD l 2 (whole []) .room) (getD l 2 (whole []) .bytes)) h ∙ third-asks in
+    let fifth : feed (runs start (fedWith s1 v1 ∷ fedWith s2 v2 ∷ fedWith s3 v3 ∷ fedWith s4 v4 ∷ [])) (length v5) s5 ≡ record { next = second; says = asks 290; used = 7 } = ap (λ (l : List Fed). feed (runs start (take 4 l)) (getD l 4 (whole []) .room) (getD l 4 (whole []) .bytes)) h ∙ fifth-asks in (
       demand-2 _ _ _ _ (then s1 v1 r1 n1 l1 w1 c1 (then s2 v2 r2 n2 l2 w2 c2 none)) s3 v3 r3 n3 l3 w3 c3 290 (ap (λ (x : Step). x .says) third) .notPermitted .1 (subst (λ (x : Step). NeverStands (x .next) 290) (sym third) first-lacks),
       demand-2 _ _ _ _ (then s1 v1 r1 n1 l1 w1 c1 (then s2 v2 r2 n2 l2 w2 c2 (then s3 v3 r3 n3 l3 w3 c3 (then s4 v4 r4 n4 l4 w4 c4 none)))) s5 v5 r5 n5 l5 w5 c5 290 (ap (λ (x : Step). x .says) fifth) .permitted .1 (subst (λ (x : Step). AlwaysStands (x .next) 290) (sym fifth) second-stands),
     )

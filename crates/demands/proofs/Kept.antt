@@ -12,6 +12,7 @@ use Rattle.rows.specs.Numbering.{place, has}
 use Rattle.rows.specs.Form.{rowsOut}
 use Rattle.rows.proofs.Place.{has-lt}
 use Rattle.ranges.specs.Bytes.{Outcome, got, refused}
+use Rattle.frames.specs.Frames.{extent}
 use Rattle.reader.specs.Records.{Record, enter, remove, confirm, preview, query, readCanonical}
 use Rattle.rows.proofs.Appended.{Ext, ext-refl, ext-trans}
 use Rattle.bookform.specs.declared.Book.{Book}
@@ -26,7 +27,7 @@ step-grows : (M : State) (s : List ℕ) → Ext (M .N) (step M s .next .N)
 unfolding step
 step-grows M s = go (readCanonical s) (moved M (readCanonical s))
   where
-    go : (o : Outcome Record) → Moved M o → Ext (M .N) (acted M o .next .N)
+    go : (o : Outcome Record) → Moved M o → Ext (M .N) (acted M (extent s) o .next .N)
     go (got (enter by g) n) u = u .ext
     go (got (remove by g) n) u = u .ext
     go (got (confirm p g) n) u = u .ext

@@ -14,6 +14,7 @@ use Rattle.rows.specs.Written.{Grant}
 use Rattle.rows.specs.Numbering.{number, numberConcl}
 use Rattle.rows.proofs.Appended.{Ext, ext-refl, number-ext, concl-more}
 use Rattle.ranges.specs.Bytes.{Outcome, got, refused}
+use Rattle.frames.specs.Frames.{extent}
 use Rattle.reader.specs.Records.{Record, enter, remove, confirm, preview, query, readCanonical}
 use Rattle.reader.specs.Requests.{fits}
 use Rattle.machine.specs.Machine.{State, Entry, Verdict, Step, changes, previews, asks, refuses, refuse, act, acted, step, feed, member, insert, delete, entry, entered, there, removed, stands}
@@ -154,20 +155,20 @@ module _ (M : State) where
   not-asking X Y c x {k} y true e = let d : changes ≡ asks c = sym x ∙ e in let z : _≡_ {A = ℕ} 0 1 = cc in absurd (omega arith)
   not-asking X Y c x {k} y false e = let d : refuses k ≡ asks c = sym y ∙ e in let z : _≡_ {A = ℕ} 0 1 = cc in absurd (omega arith)
 
-  pub asks-still : (o : Outcome Record) (c : ℕ) → acted M o .says ≡ asks c → Still M (acted M o .next)
+  pub asks-still : (u : ℕ) (o : Outcome Record) (c : ℕ) → acted M u o .says ≡ asks c → Still M (acted M u o .next)
   unfolding act
-  asks-still (got (enter by g) n) c e = not-asking _ (refuse M 6 n) c refl refl (fits (number g (M .N))) e
-  asks-still (got (remove by g) n) c e = not-asking _ (refuse M 7 n) c refl refl (there by g (M .entries)) e
-  asks-still (got (confirm p g) n) c e = not-asking _ (refuse M 7 n) c refl refl (stands M (Provisional p) g) e
-  asks-still (got (preview p g) n) c e = moved (got (preview p g) n)
-  asks-still (got (query q) n) c e = moved (got (query q) n)
-  asks-still (refused k) c e = same-state M
+  asks-still u (got (enter by g) n) c e = not-asking _ (refuse M 6 n) c refl refl (fits (number g (M .N))) e
+  asks-still u (got (remove by g) n) c e = not-asking _ (refuse M 7 n) c refl refl (there by g (M .entries)) e
+  asks-still u (got (confirm p g) n) c e = not-asking _ (refuse M 7 n) c refl refl (stands M (Provisional p) g) e
+  asks-still u (got (preview p g) n) c e = moved (got (preview p g) n)
+  asks-still u (got (query q) n) c e = moved (got (query q) n)
+  asks-still u (refused k) c e = same-state M
 
   -- whichever preview buffer is lent, a record that asks changes nothing that stands
   pub feed-asks : (u : ℕ) (s : List ℕ) (c : ℕ) → feed M u s .says ≡ asks c → Still M (feed M u s .next)
   unfolding feed step
   feed-asks u s c = go (eqb u allMarks)
     where
-      go : (t : Bool) → cond t (acted M (readCanonical s)) (refuse M 9 0) .says ≡ asks c → Still M (cond t (acted M (readCanonical s)) (refuse M 9 0) .next)
-      go true e = asks-still (readCanonical s) c e
+      go : (t : Bool) → cond t (acted M (extent s) (readCanonical s)) (refuse M 9 0) .says ≡ asks c → Still M (cond t (acted M (extent s) (readCanonical s)) (refuse M 9 0) .next)
+      go true e = asks-still (extent s) (readCanonical s) c e
       go false e = same-state M

@@ -16,6 +16,7 @@ use Rattle.rows.specs.Written.{Grant}
 use Rattle.rows.specs.Numbering.{place, has}
 use Rattle.rows.specs.Form.{rowsOut}
 use Rattle.ranges.specs.Bytes.{Outcome, got, refused}
+use Rattle.frames.specs.Frames.{extent}
 use Rattle.reader.specs.Records.{Record, preview, readCanonical}
 use Rattle.reader.specs.Requests.{foundOf}
 use Rattle.reader.specs.inner.OneRecord.{numRecord}
@@ -23,7 +24,7 @@ use Rattle.reader.specs.declared.records.Request.the-variants.{Remove, Preview}
 use Rattle.reader.specs.declared.records.Found.{Found}
 use Rattle.reader.specs.declared.records.Found.the-variants as found
 use Rattle.reader.proofs.Record.{reads-within}
-use Rattle.exact.proofs.Content.{withdrawn, same-canonical, Previewing, licence, fault, preview-only}
+use Rattle.exact.proofs.Content.{withdrawn, same-extent, same-canonical, Previewing, licence, fault, preview-only}
 use Rattle.flags.specs.Changes.{thereFlags}
 use Rattle.marks.specs.declared.Counts.{Counts}
 use Rattle.bookform.specs.declared.Book.{Book}
@@ -49,7 +50,7 @@ use Rattle.demands.proofs.Unique.{no-choice}
 
 -- what the reader finds of the two: the same fault, the same lack of a number, or the same licence
 data Same : Found → Found → Type 0 where
-  faulty : (j : ℕ) → Same (found.Refused j) (found.Refused j)
+  faulty : (j n : ℕ) → Same (found.Refused j n) (found.Refused j n)
   unknown : (n : ℕ) → Same (found.Unknown n) (found.Unknown n)
   licensed : (p : Prin) (g : GrantNo) (n : ℕ) → Same (found.Asks (Preview p g) n) (found.Asks (Remove (Issued p) g) n)
 
@@ -77,7 +78,7 @@ shown-removed b m b′ n = record {
 
 module _ (b : Book) (m k v : List ℕ) (t t′ : Table) where
   found-same : (f g : Found) → Same f g → Foretold (appliedTo b m k t f) (appliedTo b m k t′ g) (previewAppliedTo b v f) (marksAppliedTo firmMarks b m t′ g)
-  found-same f g (faulty j) = same-refused j b 0 v m
+  found-same f g (faulty j n) = same-refused j b n v m
   found-same f g (unknown n) = same-refused 7 b n v m
   found-same f g (licensed p num n) = go (thereFlags (Issued p) (num .0) (b .flags))
     where
@@ -86,14 +87,14 @@ module _ (b : Book) (m k v : List ℕ) (t t′ : Table) where
       go true = shown-removed b m (removedBook b (Issued p) (num .0)) n
       go false = same-refused 7 b n v m
 
-reads-same : (N : List Grant) (o : Outcome Record) → Previewing o → Same (foundOf N o) (foundOf N (withdrawn o))
+reads-same : (N : List Grant) (u : ℕ) (o : Outcome Record) → Previewing o → Same (foundOf N u o) (foundOf N u (withdrawn o))
 unfolding foundOf
-reads-same N o (licence p g n) = go (has g N)
+reads-same N u o (licence p g n) = go (has g N)
   where
     go : (c : Bool) → Same (cond c (found.Asks (Preview p (record { 0 = place g N })) n) (found.Unknown n)) (cond c (found.Asks (Remove (Issued p) (record { 0 = place g N })) n) (found.Unknown n))
     go true = licensed p (record { 0 = place g N }) n
     go false = unknown n
-reads-same N o (fault j) = faulty j
+reads-same N u o (fault j) = faulty j u
 
 -- THE PREVIEW IS WHAT THE WITHDRAWAL LEAVES, whatever book, buffers and content.
 module _ (b : Book) (m k v c : List ℕ) (r q : Answered) (n l w n′ l′ w′ : List ℕ) (C : Called b m k v (previewOf c) r n l w) (D : Called b m k v (withdrawalOf c) q n′ l′ w′) where
@@ -109,7 +110,7 @@ module _ (b : Book) (m k v c : List ℕ) (r q : Answered) (n l w n′ l′ w′ 
       let ft = reads-within t (b .table) _ (f .book .table .count) refl .found (f .book .table) in
       let h : Same (numRecord s (b .table) .found) (numRecord t (b .table) .found) =
       subst (λ (z : Found). Same z (numRecord t (b .table) .found)) (sym fs)
-      (subst (λ (z : Found). Same (foundOf N (readCanonical s)) z) (sym (ft ∙ ap (foundOf N) (sym (same-canonical c)))) (reads-same N (readCanonical s) (preview-only c))) in
+      (subst (λ (z : Found). Same (foundOf N (extent s) (readCanonical s)) z) (sym (ft ∙ (λ i. foundOf N (sym (same-extent c) i) (sym (same-canonical c) i)))) (reads-same N (extent s) (readCanonical s) (preview-only c))) in
       let F = found-same b m k v (numRecord s (b .table) .table) (numRecord t (b .table) .table) _ _ h in
       subst (λ (z : Answered). Foretold z q w n′) (sym (x .0))
       (subst (λ (z : Answered). Foretold (applied b m k (numRecord s (b .table))) z w n′) (sym (y .0))

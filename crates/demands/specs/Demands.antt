@@ -4,7 +4,7 @@ use mathlib.Core.Path.{_≡_}
 use mathlib.Core.Bool.{false}
 use mathlib.Core.List.{List, [], _∷_}
 use mathlib.Core.Option.{some}
-use mathlib.Core.Logic.{_↔_}
+use mathlib.Core.Logic.{_⊎_, _↔_}
 use lib.IntN.{pos, _-ℤ_}
 use lib.ListN.{length, getD}
 use Rattle.rows.specs.Written.{Grant}
@@ -112,17 +112,17 @@ pub record Answers (M : State) (b : Book) (m k v s : List ℕ) (r : Answered) (n
   pub preview : w ≡ previewAfter (step M s .says) M b v
   pub kept : (j : ℕ) → worth (r .answer) .number ≡ some j → (r .book ≡ b) × (n ≡ m) × (l ≡ k) × (w ≡ v)
   pub untouched : (x : Counts) → r .answer ≡ Previewed x → (r .book ≡ b) × (n ≡ m) × (l ≡ k)
-  pub numbered : (j : ℕ) → worth (r .answer) .number ≡ some j → (1 ≤ j) × (j ≤ 7)
+  pub numbered : (j : ℕ) → worth (r .answer) .number ≡ some j → ((1 ≤ j) × (j ≤ 7)) ⊎ (j ≡ 10)
 
 -- DEMAND 1, of every lent book, buffers and bytes: "Every record of bytes and every lent book gets an answer: permitted, not
 -- permitted, a change with its counts, or one of the numbered refusals, each under its condition and no other. A refused record
 -- leaves every part of the book unchanged." Document 02, 5: "Demand 1 gains open"; 6: a preview, with its counts. 9: "the lent book is out
--- of form", or the preview buffer is, exactly then; 8 is never said. Every book in form shows some state. Each net "is gained less
+-- of form", or the preview buffer is, exactly then; 8 is never said. Document 02, 7: "Demand 1's nine refusals grow by this". Every book in form shows some state. Each net "is gained less
 -- lost".
 pub record Demand1 (b : Book) (m k v s : List ℕ) (r : Answered) (n l w : List ℕ) : Type 0 where
   pub unformed : (Lent b m k v → ⊥) → (r ≡ record { book = b; answer = Refused 9; used = 0 }) × (n ≡ m) × (l ≡ k) × (w ≡ v)
   pub formed : Lent b m k v → (M : State) → Shows b M → Answers M b m k v s r n l w
   pub shown : BookForm b m k → (M : State) × Shows b M
   pub nine : (worth (r .answer) .number ≡ some 9) ↔ (Lent b m k v → ⊥)
-  pub numbered : (j : ℕ) → worth (r .answer) .number ≡ some j → (1 ≤ j) × (j ≤ 9) × (j ≡ 8 → ⊥)
+  pub numbered : (j : ℕ) → worth (r .answer) .number ≡ some j → (1 ≤ j) × (j ≤ 10) × (j ≡ 8 → ⊥)
   pub net : (j : Statements) → changeIn j (worth (r .answer) .counts) .net ≡ pos (changeIn j (worth (r .answer) .counts) .gained) -ℤ pos (changeIn j (worth (r .answer) .counts) .lost)

@@ -1,18 +1,20 @@
 -- Document 02, 6: a preview beside the withdrawal that it shows.
 use Prim.Native.Nat.{ℕ}
 use mathlib.Core.Path.{_≡_}
-use mathlib.Core.List.{List, _∷_}
+use mathlib.Core.List.{List, _++_}
 use mathlib.Core.Logic.{_↔_}
+use Rattle.frames.specs.declared.Kind.the-variants.{Wd, Pv}
+use Rattle.frames.specs.Frames.{lettersOf}
 use Rattle.marks.specs.declared.Counts.{Counts}
 use Rattle.answer.specs.declared.Answer.the-variants.{Changed, Previewed, Refused}
 use Rattle.answer.specs.declared.Answered.{Answered}
 
--- The letters PV and WD, and the same content after them.
+-- The letters pv and wd, and the same bytes after them.
 abbrev pub previewOf : List ℕ → List ℕ
-previewOf c = 80 ∷ 86 ∷ c
+previewOf s = lettersOf Pv ++ s
 
 abbrev pub withdrawalOf : List ℕ → List ℕ
-withdrawalOf c = 87 ∷ 68 ∷ c
+withdrawalOf s = lettersOf Wd ++ s
 
 -- "Record PV has the form and refusals of WD and returns the counts, and in a preview buffer .. the firm marks, that WD would produce": a
 -- preview that answered r and left w in the preview buffer, and a withdrawal, on the same book, that answered q and left n in the first

@@ -2,3 +2,4 @@ pub mod Apart
 pub mod Choices
 pub mod Flags
 pub mod Sets
+pub mod Steps

@@ -12,6 +12,7 @@ use Rattle.rows.specs.Written.{Grant, sameWritten}
 use Rattle.rows.specs.Numbering.{number, numberConcl}
 use Rattle.rows.specs.Form.{conclOf}
 use Rattle.ranges.specs.Bytes.{Outcome, got, refused}
+use Rattle.frames.specs.Frames.{extent}
 use Rattle.reader.specs.Records.{Record, enter, remove, confirm, preview, query, readCanonical}
 use Rattle.reader.specs.Requests.{fits}
 
@@ -102,7 +103,7 @@ previewed M p g n = record { next = M; says = previews p g; used = n }
 
 -- "TG, LI and QU append their new grants to N, each once, in the order of numbering"; "PL appends its new grants to N as LI does".
 -- 6: "the grants that the record would number and those in N exceed 64". 7: "the grant or licence to remove doesn't stand"; "CF of a
--- licence that isn't provisional meets refusal 7". "bytes used are the record's length for 6 and 7". A record of n bytes:
+-- licence that isn't provisional meets refusal 7". A record of n bytes, which are used:
 unfoldable pub act : State → Record → ℕ → Step
 act M (enter by g) n = cond (fits (number g (M .N))) (change (entered by g (M .entries)) (number g (M .N)) n) (refuse M 6 n)
 act M (remove by g) n = cond (there by g (M .entries)) (change (removed by g (M .entries)) (M .N) n) (refuse M 7 n)
@@ -113,15 +114,15 @@ act M (query c) n =
     (record { next = record { entries = M .entries; N = numberConcl c (M .N) }; says = asks (numberOf (conclOf (numberConcl c (M .N)) c)); used = n })
     (refuse M 6 n)
 
--- "then the record from left to right, the first fault deciding"; bytes used are 0 for a fault.
-abbrev pub acted : State → Outcome Record → Step
-acted M (got r n) = act M r n
-acted M (refused k) = refuse M k 0
+-- "then the record from left to right, the first fault deciding". Document 02, 7: a fault uses the u bytes that the record's frame has.
+abbrev pub acted : State → ℕ → Outcome Record → Step
+acted M u (got r n) = act M r n
+acted M u (refused k) = refuse M k u
 
 -- "From those bytes, T, L and N alone it accepts the record or refuses it". Document 02, 3: "the plain machine's grants .. are in" the
 -- canonical form.
 unfoldable pub step : State → List ℕ → Step
-step M s = acted M (readCanonical s)
+step M s = acted M (extent s) (readCanonical s)
 
 -- Document 02, 6: "A preview buffer not as long as the marks meets refusal 9, and the plain machine, fed that length too, then refuses
 -- with 9 as well." The record s, where a preview buffer of u bytes is lent.

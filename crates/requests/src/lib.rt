@@ -53,7 +53,7 @@ pub fn apply(
     let t = r.table;
     let f = r.found;
     match f {
-        Found::Refused(k) => refuse(b, k, 0),
+        Found::Refused(k, n) => refuse(b, k, n),
         Found::Full(n) => refuse(b, Refusal::FULL, n),
         Found::Unknown(n) => refuse(b, Refusal::ABSENT, n),
         Found::Asks(q, n) => act(b, t, q, n, marks, second, preview),

@@ -21,7 +21,7 @@ use Rattle.answer.specs.inner.Answering.{refusedWith, queried}
 use Rattle.revising.specs.inner.Revising.{changedTo, enteredBook, removedBook, removed, confirmed, previewed}
 
 abbrev pub appliedTo : Book → List ℕ → List ℕ → Table → Found → Answered
-appliedTo b m k t (found.Refused j) = refusedWith b j 0
+appliedTo b m k t (found.Refused j n) = refusedWith b j n
 appliedTo b m k t (found.Full n) = refusedWith b 6 n
 appliedTo b m k t (found.Unknown n) = refusedWith b 7 n
 appliedTo b m k t (found.Asks (Enter by g) n) = changedTo (enteredBook b t by (g .0)) m n
@@ -32,7 +32,7 @@ appliedTo b m k t (found.Asks (Query c) n) = queried b t c m k n
 
 -- marks after it, by what marks a book has and which stood: the same for both buffers
 abbrev pub marksAppliedTo : (Book → List ℕ) → Book → List ℕ → Table → Found → List ℕ
-marksAppliedTo f b m t (found.Refused j) = m
+marksAppliedTo f b m t (found.Refused j n) = m
 marksAppliedTo f b m t (found.Full n) = m
 marksAppliedTo f b m t (found.Unknown n) = m
 marksAppliedTo f b m t (found.Asks (Enter by g) n) = f (enteredBook b t by (g .0))
@@ -43,7 +43,7 @@ marksAppliedTo f b m t (found.Asks (Query c) n) = m
 
 -- the preview buffer after it
 abbrev pub previewAppliedTo : Book → List ℕ → Found → List ℕ
-previewAppliedTo b v (found.Refused j) = v
+previewAppliedTo b v (found.Refused j n) = v
 previewAppliedTo b v (found.Full n) = v
 previewAppliedTo b v (found.Unknown n) = v
 previewAppliedTo b v (found.Asks (Enter by g) n) = v
@@ -54,7 +54,7 @@ previewAppliedTo b v (found.Asks (Query c) n) = v
 
 -- the numbers of what was found are in range
 abbrev pub FoundFits : Found → Type 0
-FoundFits (found.Refused k) = Unit {0}
+FoundFits (found.Refused k n) = Unit {0}
 FoundFits (found.Full n) = Unit {0}
 FoundFits (found.Unknown n) = Unit {0}
 FoundFits (found.Asks (Enter by g) n) = StatusRange by × (g .0 < grants)
