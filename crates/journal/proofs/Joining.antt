@@ -2,8 +2,8 @@
 use Prim.Native.Nat.{ℕ}
 use mathlib.Core.Path.{_≡_, sym, ap, _∙_}
 use mathlib.Core.List.{List, _∷_, _++_, append-assoc}
-use Rattle.reader.specs.declared.records.Kind.{Kind}
-use Rattle.reader.specs.Records.{lettersOf}
+use Rattle.frames.specs.declared.Kind.{Kind}
+use Rattle.frames.specs.Frames.{lettersOf}
 use Rattle.marks.specs.declared.Counts.{Counts}
 use Rattle.marks.specs.Counts.{ones}
 use Rattle.answer.specs.declared.Answer.{Answer}

@@ -2,13 +2,13 @@
 use Prim.Native.Nat.{ℕ}
 use mathlib.Core.Path.{_≡_, sym, _∙_}
 use mathlib.Core.List.{List}
-use Rattle.reader.specs.declared.records.Kind.{Kind}
-use Rattle.reader.specs.declared.records.MarkOut.{MarkOut}
-use Rattle.reader.specs.declared.records.MarkOut.the-variants as mark
-use Rattle.reader.specs.Records.{lettersOf, readMark}
-use Rattle.reader.specs.inner.OneRecord.{asMark}
-use Rattle.reader.proofs.Marks.{mark-got}
-use Rattle.exact.proofs.Letters.{mark-spelt}
+use Rattle.frames.specs.declared.Kind.{Kind}
+use Rattle.frames.specs.declared.MarkOut.{MarkOut}
+use Rattle.frames.specs.declared.MarkOut.the-variants as mark
+use Rattle.frames.specs.Frames.{lettersOf, readMark}
+use Rattle.frames.specs.inner.Told.{asMark}
+use Rattle.frames.proofs.Marks.{mark-got}
+use Rattle.frames.proofs.Letters.{mark-spelt}
 use Rattle.journal.specs.Lines.{lettersIn}
 
 -- where the answer of the reader tells the kind, its letters are those that the record starts with

@@ -4,9 +4,10 @@ use mathlib.Core.Path.{_≡_, refl, sym, ap, _∙_, subst}
 use mathlib.Core.Logic.{⊎-elim}
 use mathlib.Core.List.{List}
 use native.Mathlib.Omega.{arith}
-use Rattle.reader.specs.declared.records.Kind.{Kind}
-use Rattle.ranges.specs.Bytes.{Outcome, got, refused}
-use Rattle.reader.specs.Records.{Record, readMark, readRecord, readCanonical}
+use Rattle.frames.specs.declared.Kind.{Kind}
+use Rattle.ranges.specs.Bytes.{Outcome, got, refused, andThen}
+use Rattle.frames.specs.Frames.{readMark, marked, frame, extent}
+use Rattle.reader.specs.Records.{Record, framed, readRecord, canonRecord, readCanonical}
 use Rattle.bookform.specs.declared.Book.{Book}
 use Rattle.answer.specs.declared.Answered.{Answered}
 use Rattle.answer.specs.declared.Answer.{Answer}
@@ -22,12 +23,12 @@ refusal-opened s a k e = subst (Opened s) (sym e) tt
 
 -- a kind that is not read is refused
 unread : (s : List ℕ) (j : ℕ) → readMark s ≡ refused j → readCanonical s ≡ refused j
-unfolding readRecord readCanonical
-unread s j e = rw e
+unfolding frame readRecord readCanonical
+unread s j e = ap (λ (o : Outcome Kind). andThen (framed (marked o s)) (λ r n. got (canonRecord r) n)) e
 
 says-refused : (M : State) (s m k n w : List ℕ) (j : ℕ) → readMark s ≡ refused j → answerOf (step M s .says) m k n w ≡ Refused j
 unfolding step answerOf
-says-refused M s m k n w j e = ap (λ (o : Outcome Record). answerOf (acted M o .says) m k n w) (unread s j e)
+says-refused M s m k n w j e = ap (λ (o : Outcome Record). answerOf (acted M (extent s) o .says) m k n w) (unread s j e)
 
 read-opened : (s : List ℕ) (k : Kind) (n : ℕ) → readMark s ≡ got k n → (a : Answer) → Opened s a
 read-opened s k n e (Changed c) = λ j f. let z : _≡_ {A = ℕ} 0 1 = cc in omega arith

@@ -4,7 +4,7 @@ use mathlib.Core.Path.{_≡_}
 use mathlib.Core.List.{List, _++_}
 use lib.ListN.{take}
 use Rattle.ranges.specs.Bytes.{refused}
-use Rattle.reader.specs.Records.{readMark}
+use Rattle.frames.specs.Frames.{readMark}
 use Rattle.marks.specs.declared.Counts.{Counts}
 use Rattle.marks.specs.Counts.{ones}
 use Rattle.answer.specs.declared.Answer.{Answer}
@@ -23,7 +23,7 @@ abbrev pub nets : Counts → List ℕ
 nets c = space ++ signed (c .truths .net) ++ space ++ signed (c .sayings .net)
 
 -- "then its letters and signed net, or letters and the query's answer, or `refused` and the number": what the line of the
--- record that s starts with says of the answer. Document 02, 5: "`open` after QU"; 6: "The listing prints PV like WD."
+-- record that s starts with says of the answer. Document 02, 5: "`open` after QU"; 6: "The listing prints PV like WD." 7: "the printed letters change with" the marks.
 unfoldable pub said : List ℕ → Answer → List ℕ
 said s (Changed c) = lettersIn s ++ nets c
 said s (Previewed c) = lettersIn s ++ nets c

@@ -1,15 +1,14 @@
 // The lines that tell of answers.
 use answer::Answer;
+use frames::Kind;
+use frames::MarkOut;
 use lines::Line;
 use lines::Said;
 use marks::standing;
-use reader::records;
-use reader::records::Kind;
-use reader::records::MarkOut;
 ghost use mathlib.Core.Path.{_≡_};
 ghost use Prim.Native.Nat.{ℕ};
 ghost use Rattle.ranges.specs.Bytes.{refused};
-ghost use Rattle.reader.specs.Records.{lettersOf, readMark};
+ghost use Rattle.frames.specs.Frames.{lettersOf, readMark};
 ghost use Rattle.lines.specs.Pieces.{Carries};
 ghost use Rattle.journal.specs.Lines.{lettersIn, lineOf, endOf, refusedLine, Opened, Says};
 
@@ -18,7 +17,7 @@ fn kind_of(s: &[u8]) -> Kind
     requires { ⌜ ((j : ℕ) → readMark (now s) ≡ refused j → ⊥) ⌝ }
     ensures { λ r. ⌜ lettersOf r ≡ lettersIn (now (s .entry)) ⌝ }
 {
-    let MarkOut::Got(k, _) = records::read_mark(s) else {
+    let MarkOut::Got(k, _) = frames::read_mark(s) else {
         return Kind::Tg;
     };
     k

@@ -4,9 +4,9 @@ use mathlib.Core.Path.{_≡_, refl, sym, ap, subst}
 use mathlib.Core.List.{List, [], _∷_, _++_}
 use native.Mathlib.Omega.{arith}
 use lib.ListN.{length, getD}
-use Rattle.reader.specs.declared.records.Kind.{Kind}
-use Rattle.reader.specs.Records.{lettersOf}
-use Rattle.exact.proofs.Letters.{two-letters}
+use Rattle.frames.specs.declared.Kind.{Kind}
+use Rattle.frames.specs.Frames.{lettersOf}
+use Rattle.frames.proofs.Letters.{two-letters}
 use Rattle.marks.specs.declared.Counts.{Counts}
 use Rattle.digits.specs.Decimals.{decimal}
 use Rattle.pieces.specs.Words.{space, newline, marksWord}

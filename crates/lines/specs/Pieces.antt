@@ -3,7 +3,7 @@ use Prim.Native.Nat.{ℕ, _<_}
 use mathlib.Core.Path.{_≡_}
 use mathlib.Core.List.{List, [], _∷_, _++_}
 use lib.ListN.{length}
-use Rattle.reader.specs.Records.{lettersOf}
+use Rattle.frames.specs.Frames.{lettersOf}
 use Rattle.digits.specs.Decimals.{decimal}
 use Rattle.pieces.specs.Words.{space, newline, permitted, openWord, notPermitted, refusedWord, endWord, marksWord}
 use Rattle.pieces.specs.Pieces.{each, lastNumber, netPieces}

@@ -1,14 +1,14 @@
 // The lines of a listing, and the pieces of each.
 pub mod sizes;
 
+use frames::Kind;
 use marks::Counts;
 use pieces::Piece;
 use pieces::Word;
-use reader::records::Kind;
 ghost use mathlib.Core.Path.{_≡_};
 ghost use mathlib.Core.List.{[], _∷_, _++_};
 ghost use lib.ListN.{getD};
-ghost use Rattle.reader.specs.Records.{lettersOf};
+ghost use Rattle.frames.specs.Frames.{lettersOf};
 ghost use Rattle.digits.specs.Decimals.{decimal};
 ghost use Rattle.pieces.specs.Words.{space, newline, refusedWord, endWord, marksWord};
 ghost use Rattle.pieces.specs.Pieces.{each, lastNumber, netPieces, wordBytes, bytesOf};

@@ -1,30 +1,25 @@
--- The reading of a journal ends at the refusals 1 to 5, and at no other answer.
+-- The reading of a journal ends at the refusals 1 and 2, and at no other answer.
 use Prim.Native.Nat.{ℕ, _≤_, _<_}
 use mathlib.Core.Path.{_≡_, refl, sym, ap, _∙_, subst}
 use mathlib.Core.Bool.{Bool, true, false, cond}
-use mathlib.Core.Logic.{_↔_}
+use mathlib.Core.Logic.{_↔_, inl, inr}
 use mathlib.Core.List.{List}
 use native.Mathlib.Omega.{arith}
-use lib.ListN.{length, getD, length-append}
-use lib.Seq.{length-take-le}
+use lib.ListN.{length, getD}
 use lib.Dec.{eqb}
-use Rattle.rows.specs.Numbering.{number, numberConcl}
 use Rattle.ranges.specs.Bytes.{Outcome, got, refused}
-use Rattle.sorts.specs.declared.Status.the-variants.{Issued, Provisional}
 use Rattle.sorts.specs.Numbers.{allMarks}
-use Rattle.reader.specs.Records.{Record, enter, remove, confirm, preview, query, readRecord, readCanonical}
-use Rattle.reader.specs.Requests.{fits}
-use Rattle.reader.specs.Records.{lettersOf}
-use Rattle.exact.specs.Writing.{kindOf, contentOf, writtenRecord}
-use Rattle.exact.proofs.Letters.{two-letters}
-use Rattle.exact.proofs.Exact.{record-exact}
+use Rattle.frames.specs.Frames.{extent}
+use Rattle.reader.specs.Records.{Record, readRecord, readCanonical}
+use Rattle.exact.proofs.Exact.{record-found}
 use Rattle.exact.proofs.CanonicalRecords.{canonical-got, canonical-refused}
-use Rattle.exact.proofs.Faults.{fault-range}
+use Rattle.exact.proofs.Faults.{Turned, at-frame, in-content, fault-at}
 use Rattle.rules.proofs.Standing.{standing-length}
 use Rattle.bookform.specs.declared.Book.{Book}
 use Rattle.answer.specs.declared.Answer.the-variants.{Permitted, Open, NotPermitted}
 use Rattle.answer.specs.declared.Answered.{Answered}
-use Rattle.machine.specs.Machine.{State, Step, Verdict, changes, previews, asks, refuses, act, acted, step, stands, there}
+use Rattle.machine.specs.Machine.{State, Verdict, changes, previews, asks, refuses, act, acted, step}
+use Rattle.machine.proofs.Steps.{act-acts}
 use Rattle.bookform.specs.Books.{Lent}
 use Rattle.book.specs.Shows.{Shows}
 use Rattle.book.specs.Calls.{answerOf, previewAfter, Called}
@@ -32,49 +27,38 @@ use Rattle.book.specs.Chains.{Call}
 use Rattle.journal.specs.Journals.{Calls, ended, then}
 use Rattle.listings.specs.Listings.{Ends, AllEnd}
 
--- a record is as long as its letters at least
-letters-long : (r : Record) → 2 ≤ length (writtenRecord r)
-unfolding writtenRecord
-letters-long r =
-    let l = ap (length {A = ℕ}) (two-letters (kindOf r)) in
-    let h = length-append (lettersOf (kindOf r)) (contentOf r) in
-    omega arith
-
-record-long : (s : List ℕ) (r : Record) (n : ℕ) → readRecord s ≡ got r n → 2 ≤ n
-record-long s r n e =
-    let x = record-exact s r n e in
-    omega (arith, length-take-le n s (x .1), ap (length {A = ℕ}) (x .0), letters-long r)
+-- a record that was read has its frame
+record-long : (s : List ℕ) (r : Record) (n : ℕ) → readRecord s ≡ got r n → 4 ≤ n
+record-long s r n e = omega (arith, record-found s r n e .long)
 
 -- what the machine says ends the reading
 abbrev Ending : Verdict → Type 0
 Ending changes = ⊥
 Ending (previews p g) = ⊥
 Ending (asks c) = ⊥
-Ending (refuses k) = (1 ≤ k) × (k ≤ 5)
+Ending (refuses k) = (1 ≤ k) × (k ≤ 2)
 
-late : (k : ℕ) → 5 < k → Ending (refuses k) → ⊥
-late k l h = omega (arith, h .1)
+-- which is a refusal by 1 or 2
+ending-refuses : (y : Verdict) → Ending y → (k : ℕ) × (y ≡ refuses k) × (k ≤ 2)
+ending-refuses changes x = absurd x
+ending-refuses (previews p g) x = absurd x
+ending-refuses (asks c) x = absurd x
+ending-refuses (refuses k) x = (k, refl, x .1)
 
--- a record that was read uses its own bytes, and what is said of it ends no reading
-pick : (t : Bool) (n : ℕ) (x y : Step) → (x .used ≡ n) × (Ending (x .says) → ⊥) → (y .used ≡ n) × (Ending (y .says) → ⊥) →
-    (cond t x y .used ≡ n) × (Ending (cond t x y .says) → ⊥)
-pick true n x y p q = p
-pick false n x y p q = q
-
-act-used : (M : State) (r : Record) (n : ℕ) → (act M r n .used ≡ n) × (Ending (act M r n .says) → ⊥)
-unfolding act
-act-used M (enter by g) n = pick (fits (number g (M .N))) n _ _ (refl, λ x. x) (refl, late 6 (omega arith))
-act-used M (remove by g) n = pick (there by g (M .entries)) n _ _ (refl, λ x. x) (refl, late 7 (omega arith))
-act-used M (confirm p g) n = pick (stands M (Provisional p) g) n _ _ (refl, λ x. x) (refl, late 7 (omega arith))
-act-used M (preview p g) n = pick (there (Issued p) g (M .entries)) n _ _ (refl, λ x. x) (refl, late 7 (omega arith))
-act-used M (query c) n = pick (fits (numberConcl c (M .N))) n _ _ (refl, λ x. x) (refl, late 6 (omega arith))
-
-acted-ends : (M : State) (s : List ℕ) (o : Outcome Record) → readCanonical s ≡ o → (acted M o .used ≡ 0) ↔ Ending (acted M o .says)
+acted-ends : (M : State) (s : List ℕ) (o : Outcome Record) → readCanonical s ≡ o → (acted M (extent s) o .used ≡ 0) ↔ Ending (acted M (extent s) o .says)
 acted-ends M s (got r n) e =
-    let a = act-used M r n in
-    let w = canonical-got s r n e in
-    (λ u. absurd (omega (arith, u, a .0, record-long s (w .0) n (w .1))), λ x. absurd (a .1 x))
-acted-ends M s (refused k) e = (λ u. fault-range s k (canonical-refused s k e), λ x. refl)
+    let a = act-acts M r n in
+    let w = canonical-got s r n e in (
+      λ u. absurd (omega (arith, u, a .used, record-long s (w .0) n (w .1))),
+      λ x. let y = ending-refuses (act M r n .says) x in let z = a .kept (y .0) (y .1) .1 in absurd (omega (arith, y .2, z)),
+    )
+acted-ends M s (refused k) e = go (fault-at s k (canonical-refused s k e))
+  where
+    go : Turned s k → (extent s ≡ 0) ↔ ((1 ≤ k) × (k ≤ 2))
+    go (at-frame f (inl h) x) = (λ u. (omega arith, omega arith), λ i. x)
+    go (at-frame f (inr h) x) = (λ u. (omega arith, omega arith), λ i. x)
+    go (in-content (inl h) l x) = (λ u. absurd (omega (arith, u, l)), λ i. absurd (omega (arith, h .0, i .1)))
+    go (in-content (inr h) l x) = (λ u. absurd (omega (arith, u, l)), λ i. absurd (omega (arith, h, i .1)))
 
 step-ends : (M : State) (s : List ℕ) → (step M s .used ≡ 0) ↔ Ending (step M s .says)
 unfolding step
@@ -112,7 +96,7 @@ pub left-long : (M : State) {b : Book} {m k v s : List ℕ} {r : Answered} {n l 
 left-long M {b} {m} {k} {v} {s} B S C = ap (length {A = ℕ}) (C .formed B M S .preview) ∙ after-long (step M s .says) M b v (B .preview)
 
 -- THE ENDING: in the calls of a journal, from what is lent in form, with a book that shows a state of the machine, those that use no
--- byte are those with the refusals 1 to 5
+-- byte are those with the refusals 1 and 2
 pub all-end : {b b′ : Book} {m m′ k k′ v v′ s : List ℕ} {cs : List Call} (M : State) → Lent b m k v → Shows b M → Calls b m k v s cs b′ m′ k′ v′ → AllEnd cs
 unfolding AllEnd
 all-end M B S ended = tt

@@ -31,7 +31,7 @@ pub calls-demand-3 : {s m k v : List ℕ} {cs : List Call} {b : Book} → Calls 
 calls-demand-3 {s} {m} {k} {v} {cs} {b} x = demand-3 cs b m k (calls-chain x)
 
 -- a fresh book, and three buffers of 0
-fresh-lent : Lent freshBook freshMarks freshMarks freshMarks
+pub fresh-lent : Lent freshBook freshMarks freshMarks freshMarks
 fresh-lent = record { book = fresh-form; preview = blank-preview }
 
 -- So the listing of a journal that is not too long tells of such calls; so do the lines that the program wrote.

@@ -15,16 +15,16 @@ use Rattle.lines.specs.Pieces.{Carries}
 use Rattle.journal.specs.Lines.{lineOf, endOf, refusedLine}
 use Rattle.journal.specs.Journals.{Calls}
 
--- "Refusals 1 to 5 end the reading."
+-- Document 02, 7: "Only refusals 1 and 2 still end the reading".
 abbrev pub Ends : Answer → Type 0
 Ends Permitted = ⊥
 Ends Open = ⊥
 Ends NotPermitted = ⊥
 Ends (Changed c) = ⊥
 Ends (Previewed c) = ⊥
-Ends (Refused k) = (1 ≤ k) × (k ≤ 5)
+Ends (Refused k) = (1 ≤ k) × (k ≤ 2)
 
--- DEMANDED of the calls of a journal: those that use no byte, and so end it, are those with the refusals 1 to 5.
+-- DEMANDED of the calls of a journal: those that use no byte, and so end it, are those with the refusals 1 and 2.
 unfoldable pub AllEnd : List Call → Type 0
 AllEnd [] = Unit {0}
 AllEnd (c ∷ cs) = ((c .gave .used ≡ 0) ↔ Ends (c .gave .answer)) × AllEnd cs
@@ -42,7 +42,7 @@ pub data Listed (s : List ℕ) : List (List ℕ) → Type 0 where
       Listed s (recordLines 1 cs ++ (endOf (length cs) m ∷ []))
 
 -- DEMANDED of the listing of a journal s that is not too long: it is the lines of its calls and the last line, and of these calls
--- demand 3 holds, and they end at the refusals 1 to 5 alone.
+-- demand 3 holds, and they end at the refusals 1 and 2 alone.
 pub record Told (s : List ℕ) (ls : List (List ℕ)) : Type 1 where
   pub calls : List Call
   pub book : Book

@@ -13,6 +13,7 @@ use Rattle.rows.specs.Form.{depth}
 use Rattle.rows.specs.Allowed.{AllowedConcl}
 use Rattle.ranges.specs.Bytes.{Outcome, got}
 use Rattle.canon.specs.Canon.{canon}
+use Rattle.frames.specs.Frames.{extent}
 use Rattle.reader.specs.Records.{Record, query, readRecord, canonRecord, readCanonical}
 use Rattle.reader.specs.Requests.{fits}
 use Rattle.exact.specs.Writing.{AllowedRecord}
@@ -64,7 +65,7 @@ module _ (p : ℕ) (x : PackRight) (n : ℕ) where
     -- the machine asks for the number, and stays as it is
     pub step-asks : (M : State) → fits (M .N) ≡ true → step M (queryFor p x n) ≡ record { next = M; says = asks (numberOf (conclusionOf p x n)); used = length (queryFor p x n) }
     unfolding step act numberConcl
-    step-asks M e = ap (acted M) read-back ∙ go x (length (queryFor p x n))
+    step-asks M e = ap (acted M (extent (queryFor p x n))) read-back ∙ go x (length (queryFor p x n))
       where
         go : (y : PackRight) (u : ℕ) → act M (query (asked p y n)) u ≡ record { next = M; says = asks (numberOf (conclusionOf p y n)); used = u }
         go Run u = rw e

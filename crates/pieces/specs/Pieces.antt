@@ -1,7 +1,7 @@
 -- The pieces in which lines are written, each at once: those of numbers and nets, and the bytes of each.
 use Prim.Native.Nat.{ℕ}
 use mathlib.Core.List.{List, [], _∷_, _++_}
-use Rattle.reader.specs.Records.{lettersOf}
+use Rattle.frames.specs.Frames.{lettersOf}
 use Rattle.marks.specs.declared.Counts.{Counts}
 use Rattle.digits.specs.Decimals.{decimal, signed}
 use Rattle.pieces.specs.declared.Piece.{Piece}

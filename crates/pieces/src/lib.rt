@@ -1,8 +1,8 @@
 // The pieces in which lines are written, each at once, and those of numbers and nets.
 pub mod sizes;
 
+use frames::Kind;
 use marks::Counts;
-use reader::records::Kind;
 ghost use mathlib.Core.Path.{_≡_};
 ghost use mathlib.Core.List.{[], _∷_, _++_};
 ghost use lib.ListN.{getD};

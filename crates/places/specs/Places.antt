@@ -5,8 +5,8 @@ use mathlib.Core.List.{List, []}
 use lib.ListN.{drop}
 use lib.Dec.{eqb}
 
--- "One record may be followed by others; the answer carries the bytes used." "Refusals 1 to 5 end the reading": they use no
--- byte. What is left to read of a journal s after a record of it.
+-- "One record may be followed by others; the answer carries the bytes used." Document 02, 7: "Only refusals 1 and 2 still end the
+-- reading": they use no byte. What is left to read of a journal s after a record of it.
 unfoldable pub restAfter : ℕ → List ℕ → List ℕ
 restAfter used s = cond (eqb used 0) [] (drop used s)
 

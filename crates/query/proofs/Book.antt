@@ -14,6 +14,7 @@ use Rattle.rows.specs.Numbering.{number, numberConcl}
 use Rattle.rows.specs.Form.{conclOf}
 use Rattle.rows.proofs.Bytes.{no-true}
 use Rattle.ranges.specs.Bytes.{Outcome, got, refused}
+use Rattle.frames.specs.Frames.{extent}
 use Rattle.reader.specs.Records.{Record, enter, remove, confirm, preview, query, readCanonical}
 use Rattle.reader.specs.Requests.{fits}
 use Rattle.exact.specs.Writing.{AllowedRecord}
@@ -68,7 +69,7 @@ module _ (M : State) (c : ℕ) where
   unfolding feed step
   asks-small u s = fed (eqb u allMarks)
     where
-      go : (o : Outcome Record) → readCanonical s ≡ o → acted M o .says ≡ asks c → c < conclusions
+      go : (o : Outcome Record) → readCanonical s ≡ o → acted M (extent s) o .says ≡ asks c → c < conclusions
       go (got q n) f e = asked-small q n (canonical-exact s q n f .0) e
       go (refused k) f e = absurd (subst Asking (sym e) tt)
 

@@ -5,8 +5,9 @@ use Rattle.rows.specs.Form.{condsOf, rowOf}
 use Rattle.ranges.specs.Bytes.{byteAt, upto, principal, pack, tag, header}
 use Rattle.grants.specs.Grants.{readProperty, readPacked, readIssue, readConcl, readConds, readWith, readGrant}
 use Rattle.canon.specs.Canon.{order, condBytes, orderCond, canon, insert as put}
-use Rattle.reader.specs.Records.{readEntry, readLicence, readQuery, readContent, kindWith, readMark, readRecord, readCanonical}
-use Rattle.exact.specs.Writing.{writtenRecord}
+use Rattle.frames.specs.Frames.{kindWith, readMark, frame, extent}
+use Rattle.reader.specs.Records.{readEntry, readLicence, readQuery, readContent, readWhole, readRecord, readCanonical}
+use Rattle.exact.specs.Writing.{inFrame, writtenRecord}
 use Rattle.rules.specs.Rules.{resUnder, conclUnder, granted, condition}
 use Rattle.rules.specs.Standing.{needsOf, fired, at, atXY, atX, ofRow}
 use Rattle.machine.specs.Machine.{member, insert, delete, act, step, feed}
@@ -22,7 +23,7 @@ listed = tt
 
 -- the plain machine, fed an example's records
 unfoldable pub fed : Unit {0}
-unfolding writtenRecord byteAt upto principal pack tag header readProperty readPacked readIssue readConcl readConds readWith readGrant readEntry readLicence readQuery readContent kindWith readMark readRecord order condBytes orderCond put canon readCanonical written writtenConds writtenConcl writtenRight sameBytes sameWritten place has add number numberConds numberConcl numberRight member insert delete act step feed runs
+unfolding inFrame writtenRecord byteAt upto principal pack tag header readProperty readPacked readIssue readConcl readConds readWith readGrant readEntry readLicence readQuery readContent readWhole kindWith readMark frame extent readRecord order condBytes orderCond put canon readCanonical written writtenConds writtenConcl writtenRight sameBytes sameWritten place has add number numberConds numberConcl numberRight member insert delete act step feed runs
 fed = tt
 
 -- the rows of its grants, and what they grant

@@ -1,5 +1,5 @@
 use mathlib.Core.Path.{sym, _∙_}
-use Rattle.reader.specs.Records.{lettersOf}
+use Rattle.frames.specs.Frames.{lettersOf}
 use Rattle.pieces.proofs.Placing.{getD-second}
 use Rattle.pieces.specs.Words.{space}
 use Rattle.pieces.specs.Pieces.{netPieces}

@@ -9,7 +9,7 @@ use Rattle.listing.proofs.put_piece.Lts as lts
 use Rattle.lines.proofs.piece_at.Reads as piece-at-reads
 use Rattle.listing.proofs.put.Reads as put-reads
 use Rattle.listing.proofs.put_word.Reads as put-word-reads
-use Rattle.reader.proofs.records.Kind.letters.Reads as letters-reads
+use Rattle.frames.proofs.Kind.letters.Reads as letters-reads
 
 -- src/main.rt:167:9
 piece-at-requires : tie.Need-piece-at-requires

@@ -1,13 +1,13 @@
 use mathlib.Core.Path.{sym, _∙_}
-use Rattle.reader.specs.Records.{readMark}
-use Rattle.reader.proofs.Marks.{mark-no}
+use Rattle.frames.specs.Frames.{readMark}
+use Rattle.frames.proofs.Marks.{mark-no}
 use Rattle.journal.proofs.Letters.{told-letters}
 use borrow.Author.Needs.{needs}
 use Rattle.journal.proofs.answers.kind_of.Statement.{statement}
 use Rattle.journal.proofs.answers.kind_of.Tie as tie
 use Rattle.journal.proofs.answers.kind_of.Reads as reads
 use Rattle.journal.proofs.answers.kind_of.Lts as lts
-use Rattle.reader.proofs.records.read_mark.Reads as read-mark-reads
+use Rattle.frames.proofs.read_mark.Reads as read-mark-reads
 
 -- src/lines.rt:35:30
 read-mark-requires : tie.Need-read-mark-requires
