@@ -1,0 +1,2 @@
+pub mod Omitting
+pub mod Listing
