@@ -8,7 +8,7 @@ use crate::judged::Judged;
 use crate::parallel;
 use crate::write;
 use reference::listing::{replay, Answer, Book, LONGEST_JOURNAL};
-use reference::reader::{read_record, Record};
+use reference::reader::{frames, Record};
 use reference::sorts::{Claim, Conclusion, PACKS, PRINCIPALS};
 
 /// Principals above 15 that are asked about too.
@@ -20,7 +20,7 @@ const STRIDE: usize = 4;
 pub fn generated(seed: u64) -> Vec<Vec<u8>> {
     let cases = families::cases(seed);
     let mut journals: Vec<Vec<u8>> = cases.into_iter().step_by(STRIDE).map(|c| c.journal).collect();
-    journals.push(vec![b'T'; LONGEST_JOURNAL + 1]);
+    journals.push(vec![b't'; LONGEST_JOURNAL + 1]);
     journals
 }
 
@@ -68,14 +68,14 @@ fn without_previews(journal: &[u8]) -> Option<Vec<u8>> {
     if journal.len() > LONGEST_JOURNAL {
         return None;
     }
-    let (mut shorter, mut rest) = (Vec::new(), journal);
-    while let Ok((record, length)) = read_record(rest) {
-        if !matches!(record, Record::PreviewWithdrawal(..)) {
-            shorter.extend(&rest[..length]);
+    let (mut shorter, mut end) = (Vec::new(), 0);
+    for (start, frame) in frames(journal) {
+        end = start + frame.length();
+        if !matches!(frame.record(), Ok(Record::PreviewWithdrawal(..))) {
+            shorter.extend(&journal[start..end]);
         }
-        rest = &rest[length..];
     }
-    shorter.extend(rest);
+    shorter.extend(&journal[end..]);
     (shorter.len() < journal.len()).then_some(shorter)
 }
 
@@ -126,8 +126,8 @@ fn open_rights(journal: &[u8]) -> usize {
 /// k). Run of pack 31 permitted, export not"; and export of one pack.
 fn document01() -> Vec<Judged> {
     let shown = |run, export| Panel { refusal: 0, run, export };
-    let p10 = [0x54, 0x47, 0x00, 0x02, 0x00, 0x02, 0x05, 0x80];
-    let export_of_pack_7 = [0x54, 0x47, 0x00, 0x00, 0x00, 0x03, 0x0F, 0x07];
+    let p10 = [0x74, 0x67, 0x00, 0x06, 0x00, 0x02, 0x00, 0x02, 0x05, 0x80];
+    let export_of_pack_7 = [0x74, 0x67, 0x00, 0x06, 0x00, 0x00, 0x00, 0x03, 0x0F, 0x07];
     vec![
         judge(&p10, &[(5, shown(0xFFFF_FFFF, 0)), (4, shown(0, 0)), (16, refused(3))]),
         judge(&export_of_pack_7, &[(15, shown(0, 1 << 7)), (7, shown(0, 0))]),

@@ -12,7 +12,7 @@ use reference::bottom_up::standing_statements;
 use reference::grant::Grant;
 use reference::listing::{replay, Book, LONGEST_JOURNAL};
 use reference::machine::Machine;
-use reference::reader::{read_record, Record};
+use reference::reader::{frames, Record};
 use reference::sorts::{Marks, Statement, STATEMENTS};
 
 /// So many buffers at least have to be neither all 0 nor one of the two buffers
@@ -30,14 +30,8 @@ pub fn generated(seed: u64) -> Vec<Bytes> {
 }
 
 fn has_preview(journal: &[u8]) -> bool {
-    let mut rest = journal;
-    while let Ok((record, length)) = read_record(rest) {
-        if matches!(record, Record::PreviewWithdrawal(..)) {
-            return true;
-        }
-        rest = &rest[length..];
-    }
-    false
+    let is_preview = |record| matches!(record, Ok(Record::PreviewWithdrawal(..)));
+    frames(journal).any(|(_, frame)| is_preview(frame.record()))
 }
 
 /// Journals of 65,536 bytes with a preview among the first records and as the
@@ -50,16 +44,16 @@ fn longest() -> Vec<Bytes> {
     let first = [&entered[..], &seen, &rest].concat();
     let last = [&entered[..], &rest, &seen].concat();
     let more = |journal: &[u8], byte: u8| [journal, &[byte]].concat();
-    vec![more(&first, b'Q'), more(&last, 0), first, last]
+    vec![more(&first, b'q'), more(&last, 0), first, last]
 }
 
-/// So many bytes of records that enter and remove nothing: queries of 5 bytes,
-/// and of 8 bytes the strike of what is not trusted.
+/// So many bytes of records that enter and remove nothing: queries of 7 bytes,
+/// and of 10 bytes the strike of what is not trusted.
 fn filling(length: usize) -> Bytes {
     let asks = write::query(&write::run(3, 7));
     let strikes = write::strike(&write::plain(&write::run(0, 0)));
     let fits = |queries: &usize| (length - asks.len() * queries) % strikes.len() == 0;
-    let queries = (0..strikes.len()).find(fits).expect("5 and 8 have no common divisor");
+    let queries = (0..strikes.len()).find(fits).expect("7 and 10 have no common divisor");
     let left = (length - asks.len() * queries) / strikes.len();
     [asks.repeat(queries), strikes.repeat(left)].concat()
 }
@@ -153,6 +147,7 @@ fn fault(journal: &[u8], found: &Preview, expected: &Preview) -> String {
 fn written() -> Judged {
     let right = write::plain(&write::run(3, 7));
     let other = write::plain(&write::export(3, 4));
+    let other_licence = [&[1], other.as_slice()].concat();
     let awaited = write::plain(&write::run(3, 8));
     let trusted = write::may_issue_all(1);
     let firm = [write::licence(1, &right), write::licence(1, &other)].concat();
@@ -172,7 +167,13 @@ fn written() -> Judged {
     after(&write::confirm(1, &awaited), &[548, 5_156]);
     after(&write::query(&write::run(3, 7)), &[548, 5_156]);
     after(&write::preview(2, &right), &[548, 5_156]);
-    after(b"PV", &[548, 5_156]);
+    after(b"pv", &[548, 5_156]);
+    let cut = write::record(b"pv", &other_licence[..other_licence.len() - 1]);
+    let long = write::record(b"pv", &[&other_licence[..], &[0]].concat());
+    let damaged = [cut, long, write::record(b"pv", &[0x10]), write::record(b"pv", &[])].concat();
+    after(&damaged, &[548, 5_156]);
+    after(&[damaged.clone(), write::preview(1, &other)].concat(), &[519, 5_127]);
+    after(&[b"PV", &write::preview(1, &other)[2..]].concat(), &[548, 5_156]);
     after(&write::preview(1, &other), &[519, 5_127]);
     after(&write::preview(1, &awaited), &[519, 548, 5_127, 5_156]);
     judged

@@ -8,7 +8,7 @@ use crate::without_preview;
 use crate::without_provisional;
 use crate::write::Bytes;
 use reference::listing::{Listing, LONGEST_JOURNAL};
-use reference::reader::read_record;
+use reference::reader::frames;
 
 pub const SUMS_AND_SIGNS: &str = "property: sums and signs of the nets, of truths and of sayings";
 pub const REFUSED_REMOVED: &str = "property: later answers without a refused record";
@@ -67,8 +67,8 @@ fn difference(expected: &str, printed: &str) -> Option<String> {
     }
 }
 
-/// Takes some of the records that the program refused with 6 or 7 out of the
-/// journal; the other records must have the answers they had.
+/// Takes some of the records that the program refused, other than with 1 or 2,
+/// out of the journal; the other records must have the answers they had.
 fn without_refused(program: &Program, case: &Case, printed: &str, seed: u64) -> Option<Check> {
     let answered = answers(printed);
     let removed = some_refused(&answered, &mut Random::new(seed, &case.name))?;
@@ -84,9 +84,10 @@ fn without_refused(program: &Program, case: &Case, printed: &str, seed: u64) -> 
     Some(Check { group: REFUSED_REMOVED, fault })
 }
 
-/// The places of one or more answers that are refusals 6 or 7, if there are any.
+/// The places of one or more answers that are refusals after which the reading
+/// goes on, if there are any.
 fn some_refused(answered: &[&str], random: &mut Random) -> Option<Vec<usize>> {
-    let is_refused = |place: &usize| matches!(answered[*place], "refused 6" | "refused 7");
+    let is_refused = |place: &usize| reads_on(answered[*place]);
     let refused: Vec<usize> = (0..answered.len()).filter(is_refused).collect();
     if refused.is_empty() {
         return None;
@@ -95,19 +96,21 @@ fn some_refused(answered: &[&str], random: &mut Random) -> Option<Vec<usize>> {
     Some(refused.into_iter().filter(|&place| place == always || random.percent(50)).collect())
 }
 
-/// The journal without the records at the given places. What cannot be read
-/// any more is kept as it is.
+/// Whether an answer is a refusal after which the next record is read.
+pub fn reads_on(answer: &str) -> bool {
+    answer.starts_with("refused ") && !matches!(answer, "refused 1" | "refused 2")
+}
+
+/// The journal without the records at the given places. What ends the reading
+/// is kept as it is, with all that follows.
 pub fn take_out(journal: &[u8], places: &[usize]) -> Bytes {
-    let mut shorter = Vec::new();
-    let mut rest = journal;
-    let mut place = 0;
-    while let Ok((_, length)) = read_record(rest) {
+    let (mut shorter, mut end) = (Vec::new(), 0);
+    for (place, (start, frame)) in frames(journal).enumerate() {
+        end = start + frame.length();
         if !places.contains(&place) {
-            shorter.extend(&rest[..length]);
+            shorter.extend(&journal[start..end]);
         }
-        rest = &rest[length..];
-        place += 1;
     }
-    shorter.extend(rest);
+    shorter.extend(&journal[end..]);
     shorter
 }

@@ -35,8 +35,8 @@ pub fn circles() -> Vec<Case> {
         let (speaker, conclusion) = circle_statement(length / 2);
         let feed = plain(&conclusion);
         records.extend([licence(speaker, &feed), withdraw(speaker, &feed)]);
-        let mut answers = vec![nets("LI", 0, 0); length];
-        answers.extend([nets("LI", 0, length as i32), nets("WD", 0, -(length as i32))]);
+        let mut answers = vec![nets("li", 0, 0); length];
+        answers.extend([nets("li", 0, length as i32), nets("wd", 0, -(length as i32))]);
         Case::answers(GROUP, &format!("length {length}"), &records, &answers, 0)
     };
     (1..=30).map(case).collect()
@@ -79,11 +79,11 @@ fn circles_of_rights() -> Vec<Case> {
         records.extend([query(&issue(0, &grant(0))), trust(&start)]);
         records.extend([query(&issue(length - 1, &start)), strike(&start)]);
         let all = 64 * i32::from(length);
-        let mut answers = vec![nets("LI", 0, 64); usize::from(length)];
-        answers.push("QU not permitted".to_string());
-        answers.push(nets("TG", all, 0));
-        answers.push("QU permitted".to_string());
-        answers.push(nets("ST", -all, 0));
+        let mut answers = vec![nets("li", 0, 64); usize::from(length)];
+        answers.push("qu not permitted".to_string());
+        answers.push(nets("tg", all, 0));
+        answers.push("qu permitted".to_string());
+        answers.push(nets("st", -all, 0));
         Case::answers(GROUP, &format!("length {length}"), &records, &answers, all as usize)
     };
     (1..=16).map(case).collect()
@@ -134,20 +134,20 @@ fn chain_licences(order: [u8; 16]) -> Vec<(u8, Bytes)> {
 fn long_chain(group: &'static str, name: &str, order: [u8; 16], links: &[(u8, Bytes)]) -> Case {
     let mut records: Vec<Bytes> = links.iter().map(|(p, grant)| licence(*p, grant)).collect();
     let named = |grant: &Bytes| i32::from(grant.len() == plain(&property(0, 0)).len());
-    let mut answers: Vec<String> = links.iter().map(|(_, g)| nets("LI", 0, named(g))).collect();
+    let mut answers: Vec<String> = links.iter().map(|(_, g)| nets("li", 0, named(g))).collect();
     let first = plain(&property(0, order[0]));
     let link = when(&[said(TELLER, &property(6, order[15]))], &property(7, order[0]));
     let last = query(&property(14, order[15]));
     let more = [
-        (licence(TELLER, &first), nets("LI", 0, 240)),
-        (withdraw(TELLER, &first), nets("WD", 0, -240)),
-        (trust(&may_issue_all(TELLER)), nets("TG", 64 + 1, 0)),
-        (provisional(TELLER, &first), nets("PL", 0, 0)),
-        (last.clone(), "QU open".to_string()),
-        (licence(TELLER, &first), nets("LI", 240, 240)),
-        (last.clone(), "QU permitted".to_string()),
-        (withdraw(TELLER, &link), nets("WD", -8 * 16, -8 * 16)),
-        (last, "QU not permitted".to_string()),
+        (licence(TELLER, &first), nets("li", 0, 240)),
+        (withdraw(TELLER, &first), nets("wd", 0, -240)),
+        (trust(&may_issue_all(TELLER)), nets("tg", 64 + 1, 0)),
+        (provisional(TELLER, &first), nets("pl", 0, 0)),
+        (last.clone(), "qu open".to_string()),
+        (licence(TELLER, &first), nets("li", 240, 240)),
+        (last.clone(), "qu permitted".to_string()),
+        (withdraw(TELLER, &link), nets("wd", -8 * 16, -8 * 16)),
+        (last, "qu not permitted".to_string()),
     ];
     for (record, answer) in more {
         records.push(record);

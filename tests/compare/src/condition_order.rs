@@ -51,14 +51,14 @@ fn covered() -> Case {
             strike(&plain(&issue(2, &other))),
         ],
         &[
-            "1 TG +1 +0",
-            "2 LI +0 +0",
-            "3 QU not permitted",
-            "4 LI +0 +1",
-            "5 LI +1 +2",
-            "6 QU permitted",
-            "7 QU permitted",
-            "8 ST -2 +0",
+            "1 tg +1 +0",
+            "2 li +0 +0",
+            "3 qu not permitted",
+            "4 li +0 +1",
+            "5 li +1 +2",
+            "6 qu permitted",
+            "7 qu permitted",
+            "8 st -2 +0",
             "end 8 marks 3",
         ],
     )
@@ -81,12 +81,12 @@ fn covered_inside(depth: u8) -> Case {
             withdraw(2, &one),
         ],
         &[
-            "1 TG +1 +0",
-            "2 LI +1 +1",
-            "3 QU permitted",
-            "4 QU permitted",
-            "5 ST -2 +0",
-            "6 WD +0 -1",
+            "1 tg +1 +0",
+            "2 li +1 +1",
+            "3 qu permitted",
+            "4 qu permitted",
+            "5 st -2 +0",
+            "6 wd +0 -1",
             "end 6 marks 0",
         ],
     )
@@ -100,7 +100,7 @@ fn turned_at_last_depth() -> Case {
         GROUP,
         "turned at depth 4",
         &[licence(2, &one), licence(2, &other), withdraw(2, &other), withdraw(2, &one)],
-        &["1 LI +0 +1", "2 LI +0 +0", "3 WD +0 -1", "4 refused 7", "end 4 marks 0"],
+        &["1 li +0 +1", "2 li +0 +0", "3 wd +0 -1", "4 refused 7", "end 4 marks 0"],
     )
 }
 
@@ -125,17 +125,17 @@ fn struck_in_another_order() -> Case {
             query(&run(7, 3)),
         ],
         &[
-            "1 TG +0 +0",
-            "2 TG +0 +0",
-            "3 LI +0 +1",
-            "4 LI +1 +1",
-            "5 QU permitted",
-            "6 LI +0 +1",
-            "7 WD +0 -1",
+            "1 tg +0 +0",
+            "2 tg +0 +0",
+            "3 li +0 +1",
+            "4 li +1 +1",
+            "5 qu permitted",
+            "6 li +0 +1",
+            "7 wd +0 -1",
             "8 refused 7",
-            "9 ST -1 +0",
+            "9 st -1 +0",
             "10 refused 7",
-            "11 QU not permitted",
+            "11 qu not permitted",
             "end 11 marks 2",
         ],
     )
@@ -157,11 +157,11 @@ fn repeated() -> Case {
             strike(&times(4)),
         ],
         &[
-            "1 TG +0 +0",
-            "2 LI +1 +1",
-            "3 ST -1 +0",
-            "4 TG +1 +0",
-            "5 ST -1 +0",
+            "1 tg +0 +0",
+            "2 li +1 +1",
+            "3 st -1 +0",
+            "4 tg +1 +0",
+            "5 st -1 +0",
             "6 refused 7",
             "end 6 marks 1",
         ],
@@ -175,8 +175,8 @@ fn five_equal() -> Case {
     Case::written(
         GROUP,
         "five equal conditions inside",
-        &[trust(&plain(&property(0, 0))), trust(&inside)],
-        &["1 TG +1 +0", "2 refused 3", "end 2 marks 1"],
+        &[trust(&plain(&property(0, 0))), trust(&inside), query(&property(0, 0))],
+        &["1 tg +1 +0", "2 refused 3", "3 qu permitted", "end 3 marks 1"],
     )
 }
 
@@ -200,9 +200,9 @@ fn what_stays_different() -> Case {
             strike(&when(&[smart, said(1, &property(0, 2))], &run(8, 3))),
         ],
         &[
-            "1 TG +0 +0",
+            "1 tg +0 +0",
             "2 refused 7",
-            "3 TG +0 +0",
+            "3 tg +0 +0",
             "4 refused 7",
             "5 refused 7",
             "6 refused 7",
@@ -220,11 +220,11 @@ fn numbers_at_the_edge(given: usize) -> Case {
     let mut records: Vec<Bytes> = (0..given)
         .map(|i| trust(&plain(&property((i % 16) as u8, 8 + (i / 16) as u8))))
         .collect();
-    let mut lines = vec!["TG +1 +0".to_string(); given];
+    let mut lines = vec!["tg +1 +0".to_string(); given];
     let left = 64 - given;
     let mut enter = |records: &mut Vec<Bytes>, grant: &[u8], takes: bool| {
         records.push(trust(grant));
-        lines.push(if takes { "TG +0 +0" } else { "refused 6" }.to_string());
+        lines.push(if takes { "tg +0 +0" } else { "refused 6" }.to_string());
     };
     enter(&mut records, &holds(&one, &apart), left >= 3);
     enter(&mut records, &holds(&one, &other), left == 2);
@@ -264,10 +264,10 @@ fn ascending_by_bytes() -> Vec<Case> {
                     strike(&grant(&[b])),
                 ],
                 &[
-                    "1 TG +0 +0",
-                    "2 ST +0 +0",
-                    "3 TG +0 +0",
-                    "4 ST +0 +0",
+                    "1 tg +0 +0",
+                    "2 st +0 +0",
+                    "3 tg +0 +0",
+                    "4 st +0 +0",
                     "5 refused 7",
                     "6 refused 7",
                     "end 6 marks 0",
@@ -309,16 +309,14 @@ impl Rewriter<'_> {
     fn journal(mut self) -> Bytes {
         let mut anew = Bytes::new();
         while self.at < self.bytes.len() {
-            let mark = self.take(2);
-            anew.extend(&mark);
-            match mark.as_slice() {
-                b"QU" => anew.extend(self.conclusion()),
-                b"LI" | b"WD" | b"PV" | b"PL" | b"CF" => {
-                    anew.extend(self.take(1));
-                    anew.extend(self.grant());
-                }
-                _ => anew.extend(self.grant()),
-            }
+            let mark = self.take(CONTENT);
+            let letters = [mark[0], mark[1]];
+            let content = match &letters {
+                b"qu" => self.conclusion(),
+                b"tg" | b"st" => self.grant(),
+                _ => [self.take(1), self.grant()].concat(),
+            };
+            anew.extend(record(&letters, &content));
         }
         anew
     }

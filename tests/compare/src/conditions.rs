@@ -79,17 +79,17 @@ fn one_by_one(demand: &Demand, count: u8, last: u8) -> Case {
         (speaker, plain(&conclusion))
     };
     let mut records = vec![trust(&(demand.grant)(&conditions))];
-    let mut answers = vec![nets("TG", 0, 0)];
+    let mut answers = vec![nets("tg", 0, 0)];
     for i in (0..count).filter(|&i| i != last) {
         let (speaker, grant) = meet(i);
         records.push(licence(speaker, &grant));
-        answers.push(nets("LI", 0, 1));
+        answers.push(nets("li", 0, 1));
     }
     let (speaker, grant) = meet(last);
     records.extend([given.clone(), licence(speaker, &grant), given.clone()]);
-    answers.extend(["QU not permitted".to_string(), nets("LI", 1, 1), "QU permitted".to_string()]);
+    answers.extend(["qu not permitted".to_string(), nets("li", 1, 1), "qu permitted".to_string()]);
     records.extend([withdraw(speaker, &grant), given]);
-    answers.extend([nets("WD", -1, -1), "QU not permitted".to_string()]);
+    answers.extend([nets("wd", -1, -1), "qu not permitted".to_string()]);
     let name = format!("{}: {count} conditions, number {last} last", demand.name);
     Case::answers(GROUP, &name, &records, &answers, usize::from(count) - 1)
 }
@@ -105,16 +105,16 @@ fn one_provisional(demand: &Demand, count: u8, waiting: u8) -> Case {
     };
     let (partner, awaited) = meet(waiting);
     let mut records = vec![trust(&(demand.grant)(&conditions)), provisional(partner, &awaited)];
-    let mut answers = vec![nets("TG", 0, 0), nets("PL", 0, 0)];
+    let mut answers = vec![nets("tg", 0, 0), nets("pl", 0, 0)];
     for i in (0..count).filter(|&i| i != waiting) {
         let (speaker, grant) = meet(i);
         records.extend([given.clone(), licence(speaker, &grant)]);
-        answers.extend(["QU not permitted".to_string(), nets("LI", 0, 1)]);
+        answers.extend(["qu not permitted".to_string(), nets("li", 0, 1)]);
     }
     records.extend([given.clone(), confirm(partner, &awaited), given.clone()]);
-    answers.extend(["QU open".to_string(), nets("CF", 1, 1), "QU permitted".to_string()]);
+    answers.extend(["qu open".to_string(), nets("cf", 1, 1), "qu permitted".to_string()]);
     records.extend([withdraw(partner, &awaited), given]);
-    answers.extend([nets("WD", -1, -1), "QU not permitted".to_string()]);
+    answers.extend([nets("wd", -1, -1), "qu not permitted".to_string()]);
     let name = format!("{}: {count} conditions, number {waiting} provisional", demand.name);
     Case::answers(GROUP, &name, &records, &answers, usize::from(count) - 1)
 }

@@ -59,17 +59,17 @@ fn middle_of_a_chain() -> Case {
     case(
         "the middle of a chain",
         &[
-            (licence(0, &smart(2)), "LI +0 +1"),
-            (provisional(1, &middle), "PL +0 +0"),
-            (asks.clone(), "QU not permitted"),
-            (trust(&last), "TG +0 +0"),
-            (asks.clone(), "QU open"),
-            (withdraw(0, &smart(2)), "WD +0 -1"),
-            (asks.clone(), "QU not permitted"),
-            (licence(0, &smart(2)), "LI +0 +1"),
-            (asks.clone(), "QU open"),
-            (confirm(1, &middle), "CF +1 +1"),
-            (asks, "QU permitted"),
+            (licence(0, &smart(2)), "li +0 +1"),
+            (provisional(1, &middle), "pl +0 +0"),
+            (asks.clone(), "qu not permitted"),
+            (trust(&last), "tg +0 +0"),
+            (asks.clone(), "qu open"),
+            (withdraw(0, &smart(2)), "wd +0 -1"),
+            (asks.clone(), "qu not permitted"),
+            (licence(0, &smart(2)), "li +0 +1"),
+            (asks.clone(), "qu open"),
+            (confirm(1, &middle), "cf +1 +1"),
+            (asks, "qu permitted"),
         ],
         3,
     )
@@ -83,24 +83,24 @@ fn either_of_two_paths(name: &str, kept: u8, gone: u8) -> Case {
     case(
         &format!("two paths to one right: {name}"),
         &[
-            (trust(&plain(&issue(0, &right))), "TG +1 +0"),
-            (trust(&plain(&issue(1, &right))), "TG +1 +0"),
-            (provisional(0, &right), "PL +0 +0"),
-            (asks.clone(), "QU open"),
-            (provisional(1, &right), "PL +0 +0"),
-            (asks.clone(), "QU open"),
-            (confirm(kept, &right), "CF +1 +1"),
-            (asks.clone(), "QU permitted"),
-            (withdraw(gone, &right), "WD +0 +0"),
-            (asks.clone(), "QU permitted"),
-            (withdraw(kept, &right), "WD -1 -1"),
-            (asks.clone(), "QU not permitted"),
-            (provisional(gone, &right), "PL +0 +0"),
-            (provisional(kept, &right), "PL +0 +0"),
-            (withdraw(gone, &right), "WD +0 +0"),
-            (asks.clone(), "QU open"),
-            (confirm(kept, &right), "CF +1 +1"),
-            (asks, "QU permitted"),
+            (trust(&plain(&issue(0, &right))), "tg +1 +0"),
+            (trust(&plain(&issue(1, &right))), "tg +1 +0"),
+            (provisional(0, &right), "pl +0 +0"),
+            (asks.clone(), "qu open"),
+            (provisional(1, &right), "pl +0 +0"),
+            (asks.clone(), "qu open"),
+            (confirm(kept, &right), "cf +1 +1"),
+            (asks.clone(), "qu permitted"),
+            (withdraw(gone, &right), "wd +0 +0"),
+            (asks.clone(), "qu permitted"),
+            (withdraw(kept, &right), "wd -1 -1"),
+            (asks.clone(), "qu not permitted"),
+            (provisional(gone, &right), "pl +0 +0"),
+            (provisional(kept, &right), "pl +0 +0"),
+            (withdraw(gone, &right), "wd +0 +0"),
+            (asks.clone(), "qu open"),
+            (confirm(kept, &right), "cf +1 +1"),
+            (asks, "qu permitted"),
         ],
         4,
     )
@@ -114,18 +114,18 @@ fn both_needed() -> Case {
     case(
         "two licences, both needed",
         &[
-            (trust(&both), "TG +0 +0"),
-            (provisional(0, &smart(2)), "PL +0 +0"),
-            (asks.clone(), "QU not permitted"),
-            (provisional(1, &good), "PL +0 +0"),
-            (asks.clone(), "QU open"),
-            (confirm(0, &smart(2)), "CF +0 +1"),
-            (asks.clone(), "QU open"),
-            (withdraw(1, &good), "WD +0 +0"),
-            (asks.clone(), "QU not permitted"),
-            (provisional(1, &good), "PL +0 +0"),
-            (confirm(1, &good), "CF +1 +1"),
-            (asks, "QU permitted"),
+            (trust(&both), "tg +0 +0"),
+            (provisional(0, &smart(2)), "pl +0 +0"),
+            (asks.clone(), "qu not permitted"),
+            (provisional(1, &good), "pl +0 +0"),
+            (asks.clone(), "qu open"),
+            (confirm(0, &smart(2)), "cf +0 +1"),
+            (asks.clone(), "qu open"),
+            (withdraw(1, &good), "wd +0 +0"),
+            (asks.clone(), "qu not permitted"),
+            (provisional(1, &good), "pl +0 +0"),
+            (confirm(1, &good), "cf +1 +1"),
+            (asks, "qu permitted"),
         ],
         3,
     )
@@ -138,16 +138,16 @@ fn nothing_added() -> Case {
     case(
         "a provisional licence of what is trusted",
         &[
-            (trust(&right), "TG +1 +0"),
-            (trust(&may_issue_all(1)), "TG +64 +0"),
-            (provisional(1, &right), "PL +0 +0"),
-            (asks.clone(), "QU permitted"),
-            (strike(&right), "ST -1 +0"),
-            (asks.clone(), "QU open"),
-            (trust(&right), "TG +1 +0"),
-            (confirm(1, &right), "CF +0 +1"),
-            (strike(&right), "ST +0 +0"),
-            (asks, "QU permitted"),
+            (trust(&right), "tg +1 +0"),
+            (trust(&may_issue_all(1)), "tg +64 +0"),
+            (provisional(1, &right), "pl +0 +0"),
+            (asks.clone(), "qu permitted"),
+            (strike(&right), "st -1 +0"),
+            (asks.clone(), "qu open"),
+            (trust(&right), "tg +1 +0"),
+            (confirm(1, &right), "cf +0 +1"),
+            (strike(&right), "st +0 +0"),
+            (asks, "qu permitted"),
         ],
         66,
     )
@@ -160,17 +160,17 @@ fn nothing_added_to_a_firm_licence() -> Case {
     case(
         "a provisional licence beside a firm one",
         &[
-            (trust(&may_issue_all(0)), "TG +64 +0"),
-            (trust(&may_issue_all(1)), "TG +64 +0"),
-            (licence(0, &right), "LI +1 +1"),
-            (provisional(1, &right), "PL +0 +0"),
-            (asks.clone(), "QU permitted"),
+            (trust(&may_issue_all(0)), "tg +64 +0"),
+            (trust(&may_issue_all(1)), "tg +64 +0"),
+            (licence(0, &right), "li +1 +1"),
+            (provisional(1, &right), "pl +0 +0"),
+            (asks.clone(), "qu permitted"),
             (confirm(0, &right), "refused 7"),
-            (withdraw(0, &right), "WD -1 -1"),
-            (asks.clone(), "QU open"),
-            (licence(0, &right), "LI +1 +1"),
-            (withdraw(1, &right), "WD +0 +0"),
-            (asks, "QU permitted"),
+            (withdraw(0, &right), "wd -1 -1"),
+            (asks.clone(), "qu open"),
+            (licence(0, &right), "li +1 +1"),
+            (withdraw(1, &right), "wd +0 +0"),
+            (asks, "qu permitted"),
         ],
         130,
     )
@@ -183,19 +183,19 @@ fn right_to_issue() -> Case {
     case(
         "a right to issue that is passed on",
         &[
-            (trust(&plain(&issue(0, &passed))), "TG +1 +0"),
-            (licence(1, &right), "LI +0 +1"),
-            (provisional(0, &passed), "PL +0 +0"),
-            (query(&issue(1, &right)), "QU open"),
-            (query(&run(3, 7)), "QU open"),
-            (query(&issue(0, &passed)), "QU permitted"),
-            (query(&issue(0, &right)), "QU not permitted"),
-            (strike(&plain(&issue(0, &passed))), "ST -1 +0"),
-            (query(&issue(1, &right)), "QU not permitted"),
-            (query(&run(3, 7)), "QU not permitted"),
-            (trust(&plain(&issue(0, &passed))), "TG +1 +0"),
-            (confirm(0, &passed), "CF +2 +1"),
-            (query(&run(3, 7)), "QU permitted"),
+            (trust(&plain(&issue(0, &passed))), "tg +1 +0"),
+            (licence(1, &right), "li +0 +1"),
+            (provisional(0, &passed), "pl +0 +0"),
+            (query(&issue(1, &right)), "qu open"),
+            (query(&run(3, 7)), "qu open"),
+            (query(&issue(0, &passed)), "qu permitted"),
+            (query(&issue(0, &right)), "qu not permitted"),
+            (strike(&plain(&issue(0, &passed))), "st -1 +0"),
+            (query(&issue(1, &right)), "qu not permitted"),
+            (query(&run(3, 7)), "qu not permitted"),
+            (trust(&plain(&issue(0, &passed))), "tg +1 +0"),
+            (confirm(0, &passed), "cf +2 +1"),
+            (query(&run(3, 7)), "qu permitted"),
         ],
         5,
     )
@@ -208,14 +208,14 @@ fn right_to_issue_any() -> Case {
     case(
         "a right to issue any grant",
         &[
-            (provisional(0, &any), "PL +0 +0"),
-            (query(&issue(0, &any)), "QU not permitted"),
-            (trust(&plain(&issue(0, &any))), "TG +1 +0"),
-            (query(&issue(0, &any)), "QU permitted"),
-            (query(&issue(0, &simple(5))), "QU open"),
-            (query(&issue(1, &simple(5))), "QU not permitted"),
-            (confirm(0, &any), "CF +63 +64"),
-            (query(&issue(0, &simple(6))), "QU permitted"),
+            (provisional(0, &any), "pl +0 +0"),
+            (query(&issue(0, &any)), "qu not permitted"),
+            (trust(&plain(&issue(0, &any))), "tg +1 +0"),
+            (query(&issue(0, &any)), "qu permitted"),
+            (query(&issue(0, &simple(5))), "qu open"),
+            (query(&issue(1, &simple(5))), "qu not permitted"),
+            (confirm(0, &any), "cf +63 +64"),
+            (query(&issue(0, &simple(6))), "qu permitted"),
         ],
         128,
     )
@@ -228,23 +228,23 @@ fn other_records_under_a_provisional_licence() -> Case {
     case(
         "every change is worked out with the provisional licences too",
         &[
-            (provisional(0, &smart(2)), "PL +0 +0"),
-            (trust(&good), "TG +0 +0"),
-            (asks.clone(), "QU open"),
-            (strike(&good), "ST +0 +0"),
-            (asks.clone(), "QU not permitted"),
-            (licence(1, &good), "LI +0 +0"),
-            (asks.clone(), "QU not permitted"),
-            (trust(&may_issue_all(1)), "TG +64 +0"),
-            (asks.clone(), "QU open"),
-            (withdraw(1, &good), "WD +0 +0"),
-            (asks.clone(), "QU not permitted"),
-            (provisional(1, &good), "PL +0 +0"),
-            (asks.clone(), "QU open"),
-            (confirm(1, &good), "CF +0 +0"),
-            (asks.clone(), "QU open"),
-            (confirm(0, &smart(2)), "CF +1 +2"),
-            (asks, "QU permitted"),
+            (provisional(0, &smart(2)), "pl +0 +0"),
+            (trust(&good), "tg +0 +0"),
+            (asks.clone(), "qu open"),
+            (strike(&good), "st +0 +0"),
+            (asks.clone(), "qu not permitted"),
+            (licence(1, &good), "li +0 +0"),
+            (asks.clone(), "qu not permitted"),
+            (trust(&may_issue_all(1)), "tg +64 +0"),
+            (asks.clone(), "qu open"),
+            (withdraw(1, &good), "wd +0 +0"),
+            (asks.clone(), "qu not permitted"),
+            (provisional(1, &good), "pl +0 +0"),
+            (asks.clone(), "qu open"),
+            (confirm(1, &good), "cf +0 +0"),
+            (asks.clone(), "qu open"),
+            (confirm(0, &smart(2)), "cf +1 +2"),
+            (asks, "qu permitted"),
         ],
         67,
     )
@@ -255,10 +255,10 @@ fn said_is_not_true() -> Case {
     case(
         "what would only be said",
         &[
-            (provisional(0, &smart(2)), "PL +0 +0"),
-            (query(&property(SMART, 2)), "QU not permitted"),
-            (confirm(0, &smart(2)), "CF +0 +1"),
-            (query(&property(SMART, 2)), "QU not permitted"),
+            (provisional(0, &smart(2)), "pl +0 +0"),
+            (query(&property(SMART, 2)), "qu not permitted"),
+            (confirm(0, &smart(2)), "cf +0 +1"),
+            (query(&property(SMART, 2)), "qu not permitted"),
         ],
         1,
     )
@@ -285,28 +285,28 @@ fn everything_open_at_once() -> Case {
         export(15, 31),
     ];
     let ask = |answer: &'static str| ends.iter().map(move |end| (query(end), answer));
-    let mut pairs: Vec<(Bytes, &str)> = grants.iter().map(|g| (trust(g), "TG +0 +0")).collect();
+    let mut pairs: Vec<(Bytes, &str)> = grants.iter().map(|g| (trust(g), "tg +0 +0")).collect();
     for issuer in 0..16 {
-        pairs.extend(grants.iter().map(|grant| (licence(issuer, grant), "LI +0 +0")));
+        pairs.extend(grants.iter().map(|grant| (licence(issuer, grant), "li +0 +0")));
     }
-    pairs.extend(ask("QU not permitted"));
-    pairs.push((provisional(0, &smart(0)), "PL +0 +0"));
-    pairs.extend(ask("QU open"));
-    pairs.push((confirm(0, &smart(0)), "CF +2304 +36864"));
-    pairs.extend(ask("QU permitted"));
+    pairs.extend(ask("qu not permitted"));
+    pairs.push((provisional(0, &smart(0)), "pl +0 +0"));
+    pairs.extend(ask("qu open"));
+    pairs.push((confirm(0, &smart(0)), "cf +2304 +36864"));
+    pairs.extend(ask("qu permitted"));
     case("all marks of the second kind at once", &pairs, 39_168)
 }
 
-/// How PL, LI, CF and WD change which kind a licence is.
+/// How pl, li, cf and wd change which kind a licence is.
 fn kinds_of_licence() -> Vec<Case> {
     let g = smart(2);
-    let (pl, li) = ((provisional(0, &g), "PL +0 +0"), (licence(0, &g), "LI +0 +1"));
+    let (pl, li) = ((provisional(0, &g), "pl +0 +0"), (licence(0, &g), "li +0 +1"));
     let (cf, wd) = (confirm(0, &g), withdraw(0, &g));
     let gone = |record: &Bytes| (record.clone(), "refused 7");
-    let confirmed = (cf.clone(), "CF +0 +1");
-    let firm_withdrawn = (wd.clone(), "WD +0 -1");
-    let withdrawn = (wd.clone(), "WD +0 +0");
-    let again = (licence(0, &g), "LI +0 +0");
+    let confirmed = (cf.clone(), "cf +0 +1");
+    let firm_withdrawn = (wd.clone(), "wd +0 -1");
+    let withdrawn = (wd.clone(), "wd +0 +0");
+    let again = (licence(0, &g), "li +0 +0");
     let kept = [pl.clone(), confirmed.clone(), gone(&cf), firm_withdrawn.clone(), gone(&cf)];
     let stays_firm = [li.clone(), pl.clone(), gone(&cf), firm_withdrawn.clone(), gone(&wd)];
     let made_firm = [pl.clone(), li.clone(), gone(&cf), again, firm_withdrawn.clone(), gone(&wd)];
@@ -315,10 +315,10 @@ fn kinds_of_licence() -> Vec<Case> {
     let anew = [li, firm_withdrawn, pl.clone(), confirmed, pl];
     vec![
         case("confirmed, then withdrawn", &[&kept[..], &[gone(&wd)]].concat(), 0),
-        case("PL of a firm licence leaves it firm", &stays_firm, 0),
-        case("LI of a provisional licence makes it firm", &made_firm, 0),
-        case("WD of a provisional licence", &removed, 0),
-        case("PL twice is one provisional licence", &twice, 1),
+        case("pl of a firm licence leaves it firm", &stays_firm, 0),
+        case("li of a provisional licence makes it firm", &made_firm, 0),
+        case("wd of a provisional licence", &removed, 0),
+        case("pl twice is one provisional licence", &twice, 1),
         case("withdrawn, then provisional, then firm", &anew, 1),
         firm_in_answers(),
         nothing_to_confirm(),
@@ -331,22 +331,22 @@ fn firm_in_answers() -> Case {
     case(
         "which kind a licence is, seen by queries",
         &[
-            (trust(&may_issue_all(0)), "TG +64 +0"),
-            (licence(0, &g), "LI +1 +1"),
-            (provisional(0, &g), "PL +0 +0"),
-            (asks.clone(), "QU permitted"),
-            (withdraw(0, &g), "WD -1 -1"),
-            (asks.clone(), "QU not permitted"),
-            (provisional(0, &g), "PL +0 +0"),
-            (asks.clone(), "QU open"),
-            (licence(0, &g), "LI +1 +1"),
-            (asks.clone(), "QU permitted"),
+            (trust(&may_issue_all(0)), "tg +64 +0"),
+            (licence(0, &g), "li +1 +1"),
+            (provisional(0, &g), "pl +0 +0"),
+            (asks.clone(), "qu permitted"),
+            (withdraw(0, &g), "wd -1 -1"),
+            (asks.clone(), "qu not permitted"),
+            (provisional(0, &g), "pl +0 +0"),
+            (asks.clone(), "qu open"),
+            (licence(0, &g), "li +1 +1"),
+            (asks.clone(), "qu permitted"),
             (confirm(0, &g), "refused 7"),
-            (asks.clone(), "QU permitted"),
-            (withdraw(0, &g), "WD -1 -1"),
-            (provisional(0, &g), "PL +0 +0"),
-            (withdraw(0, &g), "WD +0 +0"),
-            (asks, "QU not permitted"),
+            (asks.clone(), "qu permitted"),
+            (withdraw(0, &g), "wd -1 -1"),
+            (provisional(0, &g), "pl +0 +0"),
+            (withdraw(0, &g), "wd +0 +0"),
+            (asks, "qu not permitted"),
         ],
         64,
     )
@@ -356,22 +356,22 @@ fn firm_in_answers() -> Case {
 fn nothing_to_confirm() -> Case {
     let g = when(&[said(0, &issue(3, &smart(1)))], &property(GOOD, 2));
     case(
-        "CF of what is not provisional",
+        "cf of what is not provisional",
         &[
             (confirm(0, &g), "refused 7"),
             (confirm(15, &for_all(2, OVER_GRANTS, &[], &issue_any(Y))), "refused 7"),
-            (trust(&g), "TG +0 +0"),
+            (trust(&g), "tg +0 +0"),
             (confirm(0, &g), "refused 7"),
-            (licence(0, &g), "LI +0 +0"),
+            (licence(0, &g), "li +0 +0"),
             (confirm(0, &g), "refused 7"),
-            (provisional(1, &g), "PL +0 +0"),
+            (provisional(1, &g), "pl +0 +0"),
             (confirm(0, &g), "refused 7"),
             (confirm(2, &g), "refused 7"),
             (confirm(1, &smart(1)), "refused 7"),
             (withdraw(2, &g), "refused 7"),
             (strike(&smart(1)), "refused 7"),
-            (confirm(1, &g), "CF +0 +0"),
-            (strike(&g), "ST +0 +0"),
+            (confirm(1, &g), "cf +0 +0"),
+            (strike(&g), "st +0 +0"),
         ],
         0,
     )
@@ -386,16 +386,16 @@ pub fn circles() -> Vec<Case> {
         let links: Vec<(u8, Bytes)> = (0..length).map(|i| circle_licence(i, length)).collect();
         let (shown, asks) = (property(15, 15), query(&property(15, 15)));
         let feed = plain(&fed);
-        let (gain, loss) = (format!("CF +1 +{length}"), format!("WD -1 -{length}"));
-        let mut pairs = vec![(trust(&when(&[said(first_speaker, &first)], &shown)), "TG +0 +0")];
-        pairs.extend(links.iter().map(|(p, grant)| (provisional(*p, grant), "PL +0 +0")));
-        pairs.push((asks.clone(), "QU not permitted"));
-        pairs.push((provisional(speaker, &feed), "PL +0 +0"));
-        pairs.push((asks.clone(), "QU open"));
-        pairs.extend(links.iter().map(|(p, grant)| (confirm(*p, grant), "CF +0 +0")));
-        pairs.extend([(asks.clone(), "QU open"), (confirm(speaker, &feed), &gain)]);
-        pairs.extend([(asks.clone(), "QU permitted"), (withdraw(speaker, &feed), &loss)]);
-        pairs.push((asks, "QU not permitted"));
+        let (gain, loss) = (format!("cf +1 +{length}"), format!("wd -1 -{length}"));
+        let mut pairs = vec![(trust(&when(&[said(first_speaker, &first)], &shown)), "tg +0 +0")];
+        pairs.extend(links.iter().map(|(p, grant)| (provisional(*p, grant), "pl +0 +0")));
+        pairs.push((asks.clone(), "qu not permitted"));
+        pairs.push((provisional(speaker, &feed), "pl +0 +0"));
+        pairs.push((asks.clone(), "qu open"));
+        pairs.extend(links.iter().map(|(p, grant)| (confirm(*p, grant), "cf +0 +0")));
+        pairs.extend([(asks.clone(), "qu open"), (confirm(speaker, &feed), &gain)]);
+        pairs.extend([(asks.clone(), "qu permitted"), (withdraw(speaker, &feed), &loss)]);
+        pairs.push((asks, "qu not permitted"));
         case(&format!("a circle of {length} provisional licences"), &pairs, 0)
     };
     (1..=30).map(one).collect()
@@ -405,24 +405,24 @@ pub fn circles() -> Vec<Case> {
 fn issuers_and_rows() -> Vec<Case> {
     let mut rows: Vec<(Bytes, &str)> = Vec::new();
     let issuer = |i: usize| (i % 16) as u8;
-    rows.extend((0..64).map(|i| (provisional(issuer(i), &simple(i)), "PL +0 +0")));
+    rows.extend((0..64).map(|i| (provisional(issuer(i), &simple(i)), "pl +0 +0")));
     for i in (0..64).rev() {
         rows.push((confirm(issuer(i + 1), &simple(i)), "refused 7"));
         rows.push((confirm(issuer(i), &simple((i + 1) % 64)), "refused 7"));
-        rows.push((confirm(issuer(i), &simple(i)), "CF +0 +1"));
+        rows.push((confirm(issuer(i), &simple(i)), "cf +0 +1"));
         rows.push((confirm(issuer(i), &simple(i)), "refused 7"));
     }
     let right = plain(&run(3, 31));
     let mut issuers: Vec<(Bytes, &str)> = Vec::new();
     for p in 0..16 {
-        issuers.push((provisional(p, &right), "PL +0 +0"));
-        issuers.push((trust(&plain(&issue(p, &right))), "TG +1 +0"));
-        issuers.push((query(&run(3, 31)), "QU open"));
+        issuers.push((provisional(p, &right), "pl +0 +0"));
+        issuers.push((trust(&plain(&issue(p, &right))), "tg +1 +0"));
+        issuers.push((query(&run(3, 31)), "qu open"));
     }
     for p in (0..16).rev() {
-        issuers.push((withdraw(p, &right), "WD +0 +0"));
+        issuers.push((withdraw(p, &right), "wd +0 +0"));
         issuers.push((withdraw(p, &right), "refused 7"));
-        issuers.push((query(&run(3, 31)), if p > 0 { "QU open" } else { "QU not permitted" }));
+        issuers.push((query(&run(3, 31)), if p > 0 { "qu open" } else { "qu not permitted" }));
     }
     vec![
         case("a provisional licence of each of 64 rows", &rows, 64),
@@ -432,7 +432,7 @@ fn issuers_and_rows() -> Vec<Case> {
 
 /// So many provisional licences of principal 3, then more records.
 fn after(count: usize, name: &str, more: &[(Bytes, &str)], marks: usize) -> Case {
-    let entered = |i: usize| (provisional(3, &simple(i)), "PL +0 +0");
+    let entered = |i: usize| (provisional(3, &simple(i)), "pl +0 +0");
     case(name, &[(0..count).map(entered).collect::<Vec<_>>().as_slice(), more].concat(), marks)
 }
 
@@ -444,26 +444,26 @@ fn holding(i: u8) -> Bytes {
     plain(&issue(0, &fresh(i)))
 }
 
-/// PL gives numbers as LI does, CF gives none.
+/// pl gives numbers as li does, cf gives none.
 fn numbers() -> Vec<Case> {
     let nearly = [
         (provisional(0, &holding(1)), "refused 6"),
         (confirm(0, &fresh(2)), "refused 7"),
         (confirm(0, &holding(2)), "refused 7"),
-        (provisional(0, &fresh(1)), "PL +0 +0"),
+        (provisional(0, &fresh(1)), "pl +0 +0"),
         (provisional(0, &holding(1)), "refused 6"),
         (trust(&fresh(2)), "refused 6"),
-        (trust(&fresh(1)), "TG +1 +0"),
+        (trust(&fresh(1)), "tg +1 +0"),
     ];
     let inner = [
-        (provisional(0, &holding(1)), "PL +0 +0"),
-        (trust(&fresh(1)), "TG +1 +0"),
+        (provisional(0, &holding(1)), "pl +0 +0"),
+        (trust(&fresh(1)), "tg +1 +0"),
         (trust(&fresh(2)), "refused 6"),
-        (trust(&holding(1)), "TG +1 +0"),
+        (trust(&holding(1)), "tg +1 +0"),
     ];
     let mut kept: Vec<(Bytes, &str)> =
-        (0..64).map(|i| (withdraw(3, &simple(i)), "WD +0 +0")).collect();
-    kept.extend([(trust(&fresh(1)), "refused 6"), (trust(&simple(8)), "TG +1 +0")]);
+        (0..64).map(|i| (withdraw(3, &simple(i)), "wd +0 +0")).collect();
+    kept.extend([(trust(&fresh(1)), "refused 6"), (trust(&simple(8)), "tg +1 +0")]);
     vec![
         all_numbers_given(),
         after(63, "63 provisional licences", &nearly, 1),
@@ -480,12 +480,12 @@ fn all_numbers_given() -> Case {
         (query(&issue(0, &fresh(1))), "refused 6"),
         (confirm(0, &fresh(1)), "refused 7"),
         (withdraw(0, &holding(1)), "refused 7"),
-        (query(&issue(0, &simple(63))), "QU not permitted"),
-        (provisional(4, &simple(63)), "PL +0 +0"),
-        (confirm(3, &simple(0)), "CF +0 +1"),
-        (withdraw(3, &simple(1)), "WD +0 +0"),
+        (query(&issue(0, &simple(63))), "qu not permitted"),
+        (provisional(4, &simple(63)), "pl +0 +0"),
+        (confirm(3, &simple(0)), "cf +0 +1"),
+        (withdraw(3, &simple(1)), "wd +0 +0"),
         (provisional(0, &fresh(1)), "refused 6"),
-        (provisional(3, &simple(1)), "PL +0 +0"),
+        (provisional(3, &simple(1)), "pl +0 +0"),
     ];
     after(64, "64 provisional licences, and one more", &more, 1)
 }
@@ -509,20 +509,20 @@ fn other_orders() -> Vec<Case> {
 /// says nothing; a grant around it does.
 fn in_turn(depth: usize, [one, other, repeated]: &[Bytes; 3]) -> Case {
     let said = i32::from(depth > 0);
-    let (li, cf, wd) = (nets("LI", 0, said), nets("CF", 0, said), nets("WD", 0, -said));
+    let (li, cf, wd) = (nets("li", 0, said), nets("cf", 0, said), nets("wd", 0, -said));
     let pairs = [
-        (provisional(2, one), "PL +0 +0"),
-        (provisional(2, other), "PL +0 +0"),
+        (provisional(2, one), "pl +0 +0"),
+        (provisional(2, other), "pl +0 +0"),
         (confirm(2, repeated), &cf),
         (confirm(2, one), "refused 7"),
-        (provisional(2, other), "PL +0 +0"),
+        (provisional(2, other), "pl +0 +0"),
         (withdraw(2, other), &wd),
-        (provisional(2, repeated), "PL +0 +0"),
+        (provisional(2, repeated), "pl +0 +0"),
         (licence(2, other), &li),
         (confirm(2, other), "refused 7"),
         (withdraw(2, one), &wd),
-        (provisional(2, other), "PL +0 +0"),
-        (withdraw(2, repeated), "WD +0 +0"),
+        (provisional(2, other), "pl +0 +0"),
+        (withdraw(2, repeated), "wd +0 +0"),
         (withdraw(2, one), "refused 7"),
     ];
     case(&format!("conditions in another order, {depth} grants deep"), &pairs, 0)

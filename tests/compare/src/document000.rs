@@ -48,11 +48,11 @@ fn example_3_1() -> Vec<Case> {
         query(&property(SMART, BOB)),
     ];
     let lines = [
-        "1 LI +0 +1",
-        "2 LI +0 +1",
-        "3 TG +2 +0",
-        "4 QU permitted",
-        "5 QU not permitted",
+        "1 li +0 +1",
+        "2 li +0 +1",
+        "3 tg +2 +0",
+        "4 qu permitted",
+        "5 qu not permitted",
         "end 5 marks 4",
     ];
     vec![Case::written(GROUP, "3.1: Amy may say that Bob is attractive", &records, &lines)]
@@ -64,7 +64,7 @@ fn example_3_3() -> Vec<Case> {
     let smart = plain(&property(SMART, ALICE));
     let may_say = when(&[said(ALICE, &property(SMART, ALICE))], &issue(ALICE, &smart));
     let records = [licence(ALICE, &smart), trust(&may_say), query(&property(SMART, ALICE))];
-    let lines = ["1 LI +0 +1", "2 TG +2 +0", "3 QU permitted", "end 3 marks 3"];
+    let lines = ["1 li +0 +1", "2 tg +2 +0", "3 qu permitted", "end 3 marks 3"];
     vec![Case::written(GROUP, "3.3: Alice is smart", &records, &lines)]
 }
 
@@ -79,11 +79,11 @@ fn example_3_4() -> Vec<Case> {
     ];
     let trusted = [trust(&plain(&property(SMART, BOB))), query(&property(SMART, BOB))];
     let lines = [
-        "1 LI +0 +0",
-        "2 TG +1 +0",
-        "3 QU not permitted",
-        "4 TG +1 +0",
-        "5 QU permitted",
+        "1 li +0 +0",
+        "2 tg +1 +0",
+        "3 qu not permitted",
+        "4 tg +1 +0",
+        "5 qu permitted",
         "end 5 marks 2",
     ];
     vec![Case::written(GROUP, "3.4: is Bob smart", &[&alone[..], &trusted[..]].concat(), &lines)]
@@ -104,14 +104,14 @@ fn example_3_5() -> Vec<Case> {
         query(&issue(ALICE, &nap)),
     ];
     let closed_lines =
-        ["1 LI +0 +0", "2 LI +0 +0", "3 TG +1 +0", "4 QU not permitted", "end 4 marks 1"];
+        ["1 li +0 +0", "2 li +0 +0", "3 tg +1 +0", "4 qu not permitted", "end 4 marks 1"];
     let circle = for_all(0, OVER_GRANTS, &[said(ALICE, &issue_any(ALICE))], &issue_any(ALICE));
     let with_variable = [
         licence(ALICE, &circle),
         trust(&plain(&issue(ALICE, &circle))),
         query(&issue(ALICE, &nap)),
     ];
-    let variable_lines = ["1 LI +0 +0", "2 TG +1 +0", "3 QU not permitted", "end 3 marks 1"];
+    let variable_lines = ["1 li +0 +0", "2 tg +1 +0", "3 qu not permitted", "end 3 marks 1"];
     vec![
         Case::written(GROUP, "3.5: closed instances", &closed, &closed_lines),
         Case::written(GROUP, "3.5: with a grant variable", &with_variable, &variable_lines),
@@ -129,7 +129,7 @@ fn example_3_6() -> Vec<Case> {
         query(&issue(ALICE, &trusted)),
     ];
     let lines =
-        ["1 TG +0 +0", "2 QU not permitted", "3 LI +1 +1", "4 QU permitted", "end 4 marks 2"];
+        ["1 tg +0 +0", "2 qu not permitted", "3 li +1 +1", "4 qu permitted", "end 4 marks 2"];
     vec![Case::written(GROUP, "3.6: may Alice say she is trusted", &records, &lines)]
 }
 
@@ -146,12 +146,12 @@ fn example_4_3() -> Vec<Case> {
         query(&property(GOOD, CHARLIE)),
     ];
     let lines = [
-        "1 TG +64 +0",
-        "2 LI +0 +0",
-        "3 LI +0 +0",
-        "4 QU not permitted",
-        "5 LI +4 +4",
-        "6 QU permitted",
+        "1 tg +64 +0",
+        "2 li +0 +0",
+        "3 li +0 +0",
+        "4 qu not permitted",
+        "5 li +4 +4",
+        "6 qu permitted",
         "end 6 marks 72",
     ];
     vec![Case::written(GROUP, "4.3: Charlie is good", &records, &lines)]
@@ -169,11 +169,11 @@ fn example_4_4() -> Vec<Case> {
         query(&property(TRUSTED, ALICE)),
     ];
     let lines = [
-        "1 TG +1 +0",
-        "2 TG +0 +0",
-        "3 QU not permitted",
-        "4 LI +1 +1",
-        "5 QU permitted",
+        "1 tg +1 +0",
+        "2 tg +0 +0",
+        "3 qu not permitted",
+        "4 li +1 +1",
+        "5 qu permitted",
         "end 5 marks 3",
     ];
     vec![Case::written(GROUP, "4.4: Alice is not trusted before she confesses", &records, &lines)]

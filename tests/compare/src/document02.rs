@@ -23,10 +23,10 @@ fn ends_of_the_kinds() -> Vec<Case> {
         Case::written(GROUP, name, &[enter, remove], &lines)
     };
     vec![
-        case("the first truth", trust(&first), "TG +1 +0", strike(&first), "ST -1 +0"),
-        case("the last truth", trust(&last), "TG +1 +0", strike(&last), "ST -1 +0"),
-        case("the first saying", licence(0, &first), "LI +0 +1", withdraw(0, &first), "WD +0 -1"),
-        case("the last saying", licence(15, &last), "LI +0 +1", withdraw(15, &last), "WD +0 -1"),
+        case("the first truth", trust(&first), "tg +1 +0", strike(&first), "st -1 +0"),
+        case("the last truth", trust(&last), "tg +1 +0", strike(&last), "st -1 +0"),
+        case("the first saying", licence(0, &first), "li +0 +1", withdraw(0, &first), "wd +0 -1"),
+        case("the last saying", licence(15, &last), "li +0 +1", withdraw(15, &last), "wd +0 -1"),
     ]
 }
 
@@ -45,12 +45,12 @@ fn a_licence_that_only_says() -> Case {
             withdraw(1, &right),
         ],
         &[
-            "1 LI +0 +1",
-            "2 QU not permitted",
-            "3 TG +2 +0",
-            "4 QU permitted",
-            "5 ST -2 +0",
-            "6 WD +0 -1",
+            "1 li +0 +1",
+            "2 qu not permitted",
+            "3 tg +2 +0",
+            "4 qu permitted",
+            "5 st -2 +0",
+            "6 wd +0 -1",
             "end 6 marks 0",
         ],
     )
@@ -76,16 +76,16 @@ fn each_kind_alone() -> Case {
             query(&run(3, 7)),
         ],
         &[
-            "1 TG +64 +0",
-            "2 TG +1 +0",
-            "3 LI +0 +1",
-            "4 WD +0 -1",
-            "5 QU permitted",
-            "6 LI +0 +1",
-            "7 ST +0 +0",
-            "8 QU permitted",
-            "9 ST -65 +0",
-            "10 QU not permitted",
+            "1 tg +64 +0",
+            "2 tg +1 +0",
+            "3 li +0 +1",
+            "4 wd +0 -1",
+            "5 qu permitted",
+            "6 li +0 +1",
+            "7 st +0 +0",
+            "8 qu permitted",
+            "9 st -65 +0",
+            "10 qu not permitted",
             "end 10 marks 1",
         ],
     )
@@ -103,15 +103,15 @@ fn all_marks_at_once() -> Case {
     grants.push(for_all(1, OVER_PACKS, &condition, &run(X, ANY_PACK)));
     grants.push(for_all(1, OVER_PACKS, &condition, &export(X, ANY_PACK)));
     let mut records: Vec<Bytes> = grants.iter().map(|grant| trust(grant)).collect();
-    let mut answers = vec![nets("TG", 0, 0); grants.len()];
+    let mut answers = vec![nets("tg", 0, 0); grants.len()];
     for issuer in 0..16 {
         records.extend(grants.iter().map(|grant| licence(issuer, grant)));
-        answers.extend(vec![nets("LI", 0, 0); grants.len()]);
+        answers.extend(vec![nets("li", 0, 0); grants.len()]);
     }
     let (truths, sayings) = (2_304, 16 * 2_304);
     records.extend([licence(0, &plain(&smart)), withdraw(0, &plain(&smart))]);
-    answers.extend([nets("LI", truths, sayings), nets("WD", -truths, -sayings)]);
+    answers.extend([nets("li", truths, sayings), nets("wd", -truths, -sayings)]);
     records.push(licence(0, &plain(&smart)));
-    answers.push(nets("LI", truths, sayings));
+    answers.push(nets("li", truths, sayings));
     Case::answers(GROUP, "all marks at once", &records, &answers, 39_168)
 }

@@ -105,17 +105,21 @@ fn damaged_journals(seed: u64) -> Vec<Case> {
     (0..2_000).map(&mut make).collect()
 }
 
-/// Bytes without plan behind the letters of a record.
+/// Bytes without plan as the content of a record, and a query behind it. In one
+/// of ten the length is loose too.
 fn loose_bytes(seed: u64) -> Vec<Case> {
     const GROUP: &str = "records of loose bytes";
     const LIKELY: [u8; 9] = [0, 0, 0, 1, 1, 2, 3, 0x80, 0x81];
     let mut random = Random::new(seed, GROUP);
     let mut make = |i: usize| {
-        let letters = [b"TG", b"ST", b"LI", b"WD", b"PV", b"PL", b"CF", b"QU"];
-        let mut bytes = random.choose(&letters).to_vec();
-        for _ in 0..random.below(40) {
-            bytes.push(*random.choose(&LIKELY));
-        }
+        let letters = *random.choose(&LETTERS);
+        let count = random.below(40);
+        let content: Bytes = (0..count).map(|_| *random.choose(&LIKELY)).collect();
+        let stated = match random.percent(10) {
+            true => random.below(60),
+            false => content.len(),
+        };
+        let bytes = [stating(letters, stated, &content), query(&property(0, 0))].concat();
         Case::compared(GROUP, i.to_string(), bytes)
     };
     (0..600).map(&mut make).collect()

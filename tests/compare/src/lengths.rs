@@ -7,23 +7,27 @@ use crate::write::*;
 /// Journals of exactly 65,536 bytes, and longer ones.
 pub fn cases() -> Vec<Case> {
     const GROUP: &str = "journals of 65,536 bytes and more";
-    let two = [trust(&simple(0)), trust(&simple(1))].concat();
+    let three = [trust(&simple(0)), trust(&simple(1)), trust(&simple(2))].concat();
     let asks = query(&property(1, 0));
-    let filled = [two, asks.repeat(13_104)].concat();
+    let filled = [three, asks.repeat(9_358)].concat();
     assert_eq!(filled.len(), 65_536);
-    let mut answers = vec![nets("TG", 1, 0), nets("TG", 1, 0)];
-    answers.extend(vec!["QU permitted".to_string(); 13_104]);
-    let entered = [trust(&simple(3)), strike(&simple(3))].concat().repeat(4_096);
+    let mut answers = vec![nets("tg", 1, 0); 3];
+    answers.extend(vec!["qu permitted".to_string(); 9_358]);
+    let turns = [trust(&simple(3)), strike(&simple(3))].concat().repeat(3_275);
+    let last = [asks.clone(), asks.clone(), withdraw(0, &simple(3)), withdraw(1, &simple(3))];
+    let entered = [turns, last.concat()].concat();
     assert_eq!(entered.len(), 65_536);
-    let in_turn = vec![[nets("TG", 1, 0), nets("ST", -1, 0)]; 4_096].concat();
+    let mut in_turn = vec![[nets("tg", 1, 0), nets("st", -1, 0)]; 3_275].concat();
+    in_turn.extend(vec!["qu not permitted".to_string(); 2]);
+    in_turn.extend(vec!["refused 7".to_string(); 2]);
     let with = |bytes: &[u8], more: &[u8]| vec![[bytes, more].concat()];
     let mut cut_short = filled[..65_535].to_vec();
-    cut_short.insert(0, b'Q');
+    cut_short.insert(0, b'q');
     vec![
-        Case::answers(GROUP, "65,536 bytes, queries", &with(&filled, &[]), &answers, 2),
+        Case::answers(GROUP, "65,536 bytes, queries", &with(&filled, &[]), &answers, 3),
         Case::answers(GROUP, "65,536 bytes, entries", &with(&entered, &[]), &in_turn, 0),
-        Case::written(GROUP, "65,537 bytes", &with(&filled, &[0x54]), &["refused 8"]),
-        Case::written(GROUP, "65,537 bytes, entries", &with(&entered, b"Q"), &["refused 8"]),
+        Case::written(GROUP, "65,537 bytes", &with(&filled, &[0x74]), &["refused 8"]),
+        Case::written(GROUP, "65,537 bytes, entries", &with(&entered, b"q"), &["refused 8"]),
         Case::written(GROUP, "a valid record more", &with(&filled, &asks), &["refused 8"]),
         Case::written(GROUP, "200,000 bytes", &[vec![0x41; 200_000]], &["refused 8"]),
         Case::written(

@@ -61,18 +61,18 @@ fn naming(random: &mut Random) -> Bytes {
     for_all(variables, NO_RESOURCE, &conditions, &about(random))
 }
 
-/// The record that takes back what a TG, LI or PL record entered.
+/// The record that takes back what a tg, li or pl record entered.
 fn removal(record: &[u8]) -> Bytes {
     match &record[..2] {
-        b"TG" => strike(&record[2..]),
-        _ => withdraw(record[2], &record[3..]),
+        b"tg" => strike(&record[CONTENT..]),
+        _ => withdraw(record[CONTENT], &record[CONTENT + 1..]),
     }
 }
 
 /// The preview of a withdrawal; nothing before a strike.
 fn previews(removal: &[u8]) -> Bytes {
     match &removal[..2] {
-        b"WD" => preview(removal[2], &removal[3..]),
+        b"wd" => preview(removal[CONTENT], &removal[CONTENT + 1..]),
         _ => Bytes::new(),
     }
 }
@@ -96,14 +96,14 @@ fn second_paths(seed: u64) -> Vec<Case> {
             query(&run(9, 7)),
         ],
         &[
-            "1 TG +1 +0",
-            "2 TG +64 +0",
-            "3 LI +1 +1",
-            "4 LI +0 +1",
-            "5 WD +0 -1",
-            "6 QU permitted",
-            "7 WD -1 -1",
-            "8 QU not permitted",
+            "1 tg +1 +0",
+            "2 tg +64 +0",
+            "3 li +1 +1",
+            "4 li +0 +1",
+            "5 wd +0 -1",
+            "6 qu permitted",
+            "7 wd -1 -1",
+            "8 qu not permitted",
             "end 8 marks 65",
         ],
     )];
@@ -145,8 +145,8 @@ fn paths_to(random: &mut Random, conclusion: &[u8]) -> Vec<Bytes> {
     ];
     let share = *random.choose(&[0, 40]);
     let mut some: Vec<Bytes> = records.into_iter().filter(|_| random.percent(70)).collect();
-    for record in some.iter_mut().filter(|record| record.starts_with(b"LI")) {
-        *record = random.licence(share, record[2], &record[3..]);
+    for record in some.iter_mut().filter(|record| record.starts_with(b"li")) {
+        *record = random.licence(share, record[CONTENT], &record[CONTENT + 1..]);
     }
     some
 }

@@ -59,17 +59,17 @@ fn twice_then_withdrawn() -> Case {
     case(
         "twice, then withdrawn",
         &[
-            (trust(&plain(&issue(1, &right()))), "TG +1 +0"),
-            (licence(1, &right()), "LI +1 +1"),
-            (preview(1, &right()), "PV -1 -1"),
-            (preview(1, &right()), "PV -1 -1"),
-            (asks(), "QU permitted"),
-            (withdraw(1, &right()), "WD -1 -1"),
+            (trust(&plain(&issue(1, &right()))), "tg +1 +0"),
+            (licence(1, &right()), "li +1 +1"),
+            (preview(1, &right()), "pv -1 -1"),
+            (preview(1, &right()), "pv -1 -1"),
+            (asks(), "qu permitted"),
+            (withdraw(1, &right()), "wd -1 -1"),
             (preview(1, &right()), "refused 7"),
             (withdraw(1, &right()), "refused 7"),
-            (asks(), "QU not permitted"),
-            (licence(1, &right()), "LI +1 +1"),
-            (preview(1, &right()), "PV -1 -1"),
+            (asks(), "qu not permitted"),
+            (licence(1, &right()), "li +1 +1"),
+            (preview(1, &right()), "pv -1 -1"),
         ],
         3,
     )
@@ -80,25 +80,25 @@ fn of_a_provisional_licence() -> Case {
     case(
         "of a provisional licence",
         &[
-            (trust(&plain(&issue(1, &right()))), "TG +1 +0"),
-            (provisional(1, &right()), "PL +0 +0"),
-            (preview(1, &right()), "PV +0 +0"),
-            (asks(), "QU open"),
-            (preview(1, &right()), "PV +0 +0"),
-            (confirm(1, &right()), "CF +1 +1"),
-            (preview(1, &right()), "PV -1 -1"),
+            (trust(&plain(&issue(1, &right()))), "tg +1 +0"),
+            (provisional(1, &right()), "pl +0 +0"),
+            (preview(1, &right()), "pv +0 +0"),
+            (asks(), "qu open"),
+            (preview(1, &right()), "pv +0 +0"),
+            (confirm(1, &right()), "cf +1 +1"),
+            (preview(1, &right()), "pv -1 -1"),
             (confirm(1, &right()), "refused 7"),
-            (asks(), "QU permitted"),
-            (withdraw(1, &right()), "WD -1 -1"),
-            (provisional(1, &right()), "PL +0 +0"),
-            (preview(1, &right()), "PV +0 +0"),
-            (withdraw(1, &right()), "WD +0 +0"),
+            (asks(), "qu permitted"),
+            (withdraw(1, &right()), "wd -1 -1"),
+            (provisional(1, &right()), "pl +0 +0"),
+            (preview(1, &right()), "pv +0 +0"),
+            (withdraw(1, &right()), "wd +0 +0"),
             (preview(1, &right()), "refused 7"),
-            (provisional(1, &right()), "PL +0 +0"),
-            (licence(1, &right()), "LI +1 +1"),
-            (preview(1, &right()), "PV -1 -1"),
-            (provisional(1, &right()), "PL +0 +0"),
-            (preview(1, &right()), "PV -1 -1"),
+            (provisional(1, &right()), "pl +0 +0"),
+            (licence(1, &right()), "li +1 +1"),
+            (preview(1, &right()), "pv -1 -1"),
+            (provisional(1, &right()), "pl +0 +0"),
+            (preview(1, &right()), "pv -1 -1"),
         ],
         3,
     )
@@ -112,21 +112,21 @@ fn what_does_not_stand() -> Case {
         &[
             (preview(0, &g), "refused 7"),
             (preview(15, &for_all(2, OVER_GRANTS, &[], &issue_any(Y))), "refused 7"),
-            (trust(&g), "TG +0 +0"),
+            (trust(&g), "tg +0 +0"),
             (preview(0, &g), "refused 7"),
-            (licence(1, &g), "LI +0 +0"),
+            (licence(1, &g), "li +0 +0"),
             (preview(0, &g), "refused 7"),
             (preview(2, &g), "refused 7"),
             (preview(1, &smart(1)), "refused 7"),
-            (preview(1, &g), "PV +0 +0"),
-            (provisional(2, &g), "PL +0 +0"),
-            (preview(2, &g), "PV +0 +0"),
+            (preview(1, &g), "pv +0 +0"),
+            (provisional(2, &g), "pl +0 +0"),
+            (preview(2, &g), "pv +0 +0"),
             (preview(3, &g), "refused 7"),
-            (withdraw(2, &g), "WD +0 +0"),
+            (withdraw(2, &g), "wd +0 +0"),
             (preview(2, &g), "refused 7"),
-            (strike(&g), "ST +0 +0"),
-            (preview(1, &g), "PV +0 +0"),
-            (withdraw(1, &g), "WD +0 +0"),
+            (strike(&g), "st +0 +0"),
+            (preview(1, &g), "pv +0 +0"),
+            (withdraw(1, &g), "wd +0 +0"),
             (preview(1, &g), "refused 7"),
         ],
         0,
@@ -140,17 +140,17 @@ fn along_a_chain() -> Case {
     case(
         "along a chain",
         &[
-            (licence(0, &smart(2)), "LI +0 +1"),
-            (preview(0, &smart(2)), "PV +0 -1"),
-            (licence(1, &good), "LI +0 +1"),
-            (preview(0, &smart(2)), "PV +0 -2"),
-            (trust(&when(&both, &property(TRUSTED, 2))), "TG +1 +0"),
-            (preview(0, &smart(2)), "PV -1 -2"),
-            (preview(1, &good), "PV -1 -1"),
-            (query(&property(TRUSTED, 2)), "QU permitted"),
-            (withdraw(0, &smart(2)), "WD -1 -2"),
-            (preview(1, &good), "PV +0 +0"),
-            (query(&property(TRUSTED, 2)), "QU not permitted"),
+            (licence(0, &smart(2)), "li +0 +1"),
+            (preview(0, &smart(2)), "pv +0 -1"),
+            (licence(1, &good), "li +0 +1"),
+            (preview(0, &smart(2)), "pv +0 -2"),
+            (trust(&when(&both, &property(TRUSTED, 2))), "tg +1 +0"),
+            (preview(0, &smart(2)), "pv -1 -2"),
+            (preview(1, &good), "pv -1 -1"),
+            (query(&property(TRUSTED, 2)), "qu permitted"),
+            (withdraw(0, &smart(2)), "wd -1 -2"),
+            (preview(1, &good), "pv +0 +0"),
+            (query(&property(TRUSTED, 2)), "qu not permitted"),
         ],
         0,
     )
@@ -161,16 +161,16 @@ fn carried_by_another_licence() -> Case {
     case(
         "carried by another licence",
         &[
-            (trust(&plain(&issue(0, &right()))), "TG +1 +0"),
-            (trust(&plain(&issue(1, &right()))), "TG +1 +0"),
-            (licence(0, &right()), "LI +1 +1"),
-            (preview(0, &right()), "PV -1 -1"),
-            (licence(1, &right()), "LI +0 +1"),
-            (preview(0, &right()), "PV +0 -1"),
-            (preview(1, &right()), "PV +0 -1"),
-            (withdraw(0, &right()), "WD +0 -1"),
-            (preview(1, &right()), "PV -1 -1"),
-            (asks(), "QU permitted"),
+            (trust(&plain(&issue(0, &right()))), "tg +1 +0"),
+            (trust(&plain(&issue(1, &right()))), "tg +1 +0"),
+            (licence(0, &right()), "li +1 +1"),
+            (preview(0, &right()), "pv -1 -1"),
+            (licence(1, &right()), "li +0 +1"),
+            (preview(0, &right()), "pv +0 -1"),
+            (preview(1, &right()), "pv +0 -1"),
+            (withdraw(0, &right()), "wd +0 -1"),
+            (preview(1, &right()), "pv -1 -1"),
+            (asks(), "qu permitted"),
         ],
         4,
     )
@@ -180,15 +180,15 @@ fn carried_by_a_trusted_grant() -> Case {
     case(
         "carried by a trusted grant",
         &[
-            (trust(&may_issue_all(1)), "TG +64 +0"),
-            (licence(1, &right()), "LI +1 +1"),
-            (preview(1, &right()), "PV -1 -1"),
-            (trust(&right()), "TG +0 +0"),
-            (preview(1, &right()), "PV +0 -1"),
-            (strike(&right()), "ST +0 +0"),
-            (preview(1, &right()), "PV -1 -1"),
-            (strike(&may_issue_all(1)), "ST -65 +0"),
-            (preview(1, &right()), "PV +0 -1"),
+            (trust(&may_issue_all(1)), "tg +64 +0"),
+            (licence(1, &right()), "li +1 +1"),
+            (preview(1, &right()), "pv -1 -1"),
+            (trust(&right()), "tg +0 +0"),
+            (preview(1, &right()), "pv +0 -1"),
+            (strike(&right()), "st +0 +0"),
+            (preview(1, &right()), "pv -1 -1"),
+            (strike(&may_issue_all(1)), "st -65 +0"),
+            (preview(1, &right()), "pv +0 -1"),
         ],
         1,
     )
@@ -199,21 +199,21 @@ fn awaited_from_another() -> Case {
     case(
         "awaited from another",
         &[
-            (trust(&plain(&issue(0, &right()))), "TG +1 +0"),
-            (trust(&plain(&issue(1, &right()))), "TG +1 +0"),
-            (licence(0, &right()), "LI +1 +1"),
-            (provisional(1, &right()), "PL +0 +0"),
-            (preview(0, &right()), "PV -1 -1"),
-            (preview(1, &right()), "PV +0 +0"),
-            (asks(), "QU permitted"),
-            (withdraw(0, &right()), "WD -1 -1"),
-            (asks(), "QU open"),
-            (confirm(1, &right()), "CF +1 +1"),
-            (provisional(0, &right()), "PL +0 +0"),
-            (preview(1, &right()), "PV -1 -1"),
-            (preview(0, &right()), "PV +0 +0"),
-            (confirm(0, &right()), "CF +0 +1"),
-            (preview(1, &right()), "PV +0 -1"),
+            (trust(&plain(&issue(0, &right()))), "tg +1 +0"),
+            (trust(&plain(&issue(1, &right()))), "tg +1 +0"),
+            (licence(0, &right()), "li +1 +1"),
+            (provisional(1, &right()), "pl +0 +0"),
+            (preview(0, &right()), "pv -1 -1"),
+            (preview(1, &right()), "pv +0 +0"),
+            (asks(), "qu permitted"),
+            (withdraw(0, &right()), "wd -1 -1"),
+            (asks(), "qu open"),
+            (confirm(1, &right()), "cf +1 +1"),
+            (provisional(0, &right()), "pl +0 +0"),
+            (preview(1, &right()), "pv -1 -1"),
+            (preview(0, &right()), "pv +0 +0"),
+            (confirm(0, &right()), "cf +0 +1"),
+            (preview(1, &right()), "pv +0 -1"),
         ],
         5,
     )
@@ -225,17 +225,17 @@ fn right_to_issue() -> Case {
     case(
         "a right to issue that was passed on",
         &[
-            (trust(&plain(&issue(0, &passed))), "TG +1 +0"),
-            (licence(0, &passed), "LI +1 +1"),
-            (preview(0, &passed), "PV -1 -1"),
-            (licence(1, &right()), "LI +1 +1"),
-            (preview(0, &passed), "PV -2 -1"),
-            (preview(1, &right()), "PV -1 -1"),
-            (query(&issue(1, &right())), "QU permitted"),
-            (asks(), "QU permitted"),
-            (withdraw(0, &passed), "WD -2 -1"),
-            (preview(1, &right()), "PV +0 -1"),
-            (asks(), "QU not permitted"),
+            (trust(&plain(&issue(0, &passed))), "tg +1 +0"),
+            (licence(0, &passed), "li +1 +1"),
+            (preview(0, &passed), "pv -1 -1"),
+            (licence(1, &right()), "li +1 +1"),
+            (preview(0, &passed), "pv -2 -1"),
+            (preview(1, &right()), "pv -1 -1"),
+            (query(&issue(1, &right())), "qu permitted"),
+            (asks(), "qu permitted"),
+            (withdraw(0, &passed), "wd -2 -1"),
+            (preview(1, &right()), "pv +0 -1"),
+            (asks(), "qu not permitted"),
         ],
         2,
     )
@@ -247,17 +247,17 @@ fn right_to_issue_any() -> Case {
     case(
         "a right to issue any grant",
         &[
-            (licence(0, &any), "LI +0 +64"),
-            (preview(0, &any), "PV +0 -64"),
-            (trust(&plain(&issue(0, &any))), "TG +64 +0"),
-            (preview(0, &any), "PV -63 -64"),
-            (query(&issue(0, &simple(5))), "QU permitted"),
-            (licence(0, &simple(5)), "LI +1 +1"),
-            (preview(0, &any), "PV -64 -64"),
-            (preview(0, &simple(5)), "PV -1 -1"),
-            (withdraw(0, &any), "WD -64 -64"),
-            (preview(0, &simple(5)), "PV +0 -1"),
-            (query(&issue(0, &simple(5))), "QU not permitted"),
+            (licence(0, &any), "li +0 +64"),
+            (preview(0, &any), "pv +0 -64"),
+            (trust(&plain(&issue(0, &any))), "tg +64 +0"),
+            (preview(0, &any), "pv -63 -64"),
+            (query(&issue(0, &simple(5))), "qu permitted"),
+            (licence(0, &simple(5)), "li +1 +1"),
+            (preview(0, &any), "pv -64 -64"),
+            (preview(0, &simple(5)), "pv -1 -1"),
+            (withdraw(0, &any), "wd -64 -64"),
+            (preview(0, &simple(5)), "pv +0 -1"),
+            (query(&issue(0, &simple(5))), "qu not permitted"),
         ],
         2,
     )
@@ -269,11 +269,11 @@ fn by_its_own_word() -> Case {
     case(
         "a right by its own word",
         &[
-            (trust(&rights), "TG +0 +0"),
-            (licence(0, &smart(0)), "LI +2 +1"),
-            (preview(0, &smart(0)), "PV -2 -1"),
-            (query(&property(SMART, 0)), "QU permitted"),
-            (withdraw(0, &smart(0)), "WD -2 -1"),
+            (trust(&rights), "tg +0 +0"),
+            (licence(0, &smart(0)), "li +2 +1"),
+            (preview(0, &smart(0)), "pv -2 -1"),
+            (query(&property(SMART, 0)), "qu permitted"),
+            (withdraw(0, &smart(0)), "wd -2 -1"),
         ],
         0,
     )
@@ -288,24 +288,24 @@ fn everything() -> Case {
     grants.push(for_all(1, OVER_GRANTS, &condition, &issue_any(X)));
     grants.push(for_all(1, OVER_PACKS, &condition, &run(X, ANY_PACK)));
     grants.push(for_all(1, OVER_PACKS, &condition, &export(X, ANY_PACK)));
-    let mut pairs: Vec<(Bytes, &str)> = grants.iter().map(|g| (trust(g), "TG +0 +0")).collect();
+    let mut pairs: Vec<(Bytes, &str)> = grants.iter().map(|g| (trust(g), "tg +0 +0")).collect();
     for issuer in 0..16 {
-        pairs.extend(grants.iter().map(|grant| (licence(issuer, grant), "LI +0 +0")));
-        pairs.push((preview(issuer, &grants[18]), "PV +0 +0"));
+        pairs.extend(grants.iter().map(|grant| (licence(issuer, grant), "li +0 +0")));
+        pairs.push((preview(issuer, &grants[18]), "pv +0 +0"));
     }
     let word = smart(0);
     pairs.extend([
-        (licence(0, &word), "LI +2304 +36864"),
-        (preview(0, &word), "PV -2304 -36864"),
-        (preview(0, &word), "PV -2304 -36864"),
-        (preview(15, &grants[18]), "PV +0 -512"),
-        (query(&export(15, 31)), "QU permitted"),
-        (query(&property(0, 0)), "QU permitted"),
-        (withdraw(0, &word), "WD -2304 -36864"),
+        (licence(0, &word), "li +2304 +36864"),
+        (preview(0, &word), "pv -2304 -36864"),
+        (preview(0, &word), "pv -2304 -36864"),
+        (preview(15, &grants[18]), "pv +0 -512"),
+        (query(&export(15, 31)), "qu permitted"),
+        (query(&property(0, 0)), "qu permitted"),
+        (withdraw(0, &word), "wd -2304 -36864"),
         (preview(0, &word), "refused 7"),
-        (preview(15, &grants[18]), "PV +0 +0"),
-        (licence(0, &word), "LI +2304 +36864"),
-        (preview(0, &word), "PV -2304 -36864"),
+        (preview(15, &grants[18]), "pv +0 +0"),
+        (licence(0, &word), "li +2304 +36864"),
+        (preview(0, &word), "pv -2304 -36864"),
     ]);
     case("of all marks at once", &pairs, 39_168)
 }
@@ -316,30 +316,30 @@ fn the_book_is_untouched() -> Case {
     case(
         "before every kind of record",
         &[
-            (licence(0, &smart(2)), "LI +0 +1"),
-            (preview(0, &smart(2)), "PV +0 -1"),
-            (licence(0, &smart(2)), "LI +0 +0"),
-            (preview(0, &smart(2)), "PV +0 -1"),
-            (trust(&good), "TG +1 +0"),
-            (preview(0, &smart(2)), "PV -1 -1"),
-            (query(&property(GOOD, 2)), "QU permitted"),
-            (preview(0, &smart(2)), "PV -1 -1"),
-            (trust(&good), "TG +0 +0"),
-            (preview(0, &smart(2)), "PV -1 -1"),
-            (strike(&good), "ST -1 +0"),
-            (preview(0, &smart(2)), "PV +0 -1"),
+            (licence(0, &smart(2)), "li +0 +1"),
+            (preview(0, &smart(2)), "pv +0 -1"),
+            (licence(0, &smart(2)), "li +0 +0"),
+            (preview(0, &smart(2)), "pv +0 -1"),
+            (trust(&good), "tg +1 +0"),
+            (preview(0, &smart(2)), "pv -1 -1"),
+            (query(&property(GOOD, 2)), "qu permitted"),
+            (preview(0, &smart(2)), "pv -1 -1"),
+            (trust(&good), "tg +0 +0"),
+            (preview(0, &smart(2)), "pv -1 -1"),
+            (strike(&good), "st -1 +0"),
+            (preview(0, &smart(2)), "pv +0 -1"),
             (strike(&good), "refused 7"),
-            (preview(0, &smart(2)), "PV +0 -1"),
-            (provisional(0, &smart(2)), "PL +0 +0"),
-            (preview(0, &smart(2)), "PV +0 -1"),
+            (preview(0, &smart(2)), "pv +0 -1"),
+            (provisional(0, &smart(2)), "pl +0 +0"),
+            (preview(0, &smart(2)), "pv +0 -1"),
             (confirm(0, &smart(2)), "refused 7"),
-            (provisional(1, &good), "PL +0 +0"),
-            (preview(0, &smart(2)), "PV +0 -1"),
-            (confirm(1, &good), "CF +0 +1"),
-            (preview(0, &smart(2)), "PV +0 -2"),
-            (withdraw(1, &good), "WD +0 -1"),
-            (preview(0, &smart(2)), "PV +0 -1"),
-            (withdraw(0, &smart(2)), "WD +0 -1"),
+            (provisional(1, &good), "pl +0 +0"),
+            (preview(0, &smart(2)), "pv +0 -1"),
+            (confirm(1, &good), "cf +0 +1"),
+            (preview(0, &smart(2)), "pv +0 -2"),
+            (withdraw(1, &good), "wd +0 -1"),
+            (preview(0, &smart(2)), "pv +0 -1"),
+            (withdraw(0, &smart(2)), "wd +0 -1"),
         ],
         0,
     )
@@ -353,24 +353,24 @@ fn what_is_open_stays_open() -> Case {
     case(
         "what is open stays open",
         &[
-            (trust(&when(&both, &run(2, 0))), "TG +0 +0"),
-            (provisional(0, &smart(2)), "PL +0 +0"),
-            (licence(1, &good), "LI +0 +1"),
-            (asks.clone(), "QU open"),
-            (preview(1, &good), "PV +0 -1"),
-            (asks.clone(), "QU open"),
-            (preview(0, &smart(2)), "PV +0 +0"),
-            (asks.clone(), "QU open"),
+            (trust(&when(&both, &run(2, 0))), "tg +0 +0"),
+            (provisional(0, &smart(2)), "pl +0 +0"),
+            (licence(1, &good), "li +0 +1"),
+            (asks.clone(), "qu open"),
+            (preview(1, &good), "pv +0 -1"),
+            (asks.clone(), "qu open"),
+            (preview(0, &smart(2)), "pv +0 +0"),
+            (asks.clone(), "qu open"),
             (preview(1, &smart(2)), "refused 7"),
-            (asks.clone(), "QU open"),
-            (withdraw(1, &good), "WD +0 -1"),
-            (asks.clone(), "QU not permitted"),
-            (preview(0, &smart(2)), "PV +0 +0"),
-            (licence(1, &good), "LI +0 +1"),
-            (preview(1, &good), "PV +0 -1"),
-            (confirm(0, &smart(2)), "CF +1 +1"),
-            (preview(1, &good), "PV -1 -1"),
-            (asks, "QU permitted"),
+            (asks.clone(), "qu open"),
+            (withdraw(1, &good), "wd +0 -1"),
+            (asks.clone(), "qu not permitted"),
+            (preview(0, &smart(2)), "pv +0 +0"),
+            (licence(1, &good), "li +0 +1"),
+            (preview(1, &good), "pv +0 -1"),
+            (confirm(0, &smart(2)), "cf +1 +1"),
+            (preview(1, &good), "pv -1 -1"),
+            (asks, "qu permitted"),
         ],
         3,
     )
@@ -381,8 +381,8 @@ fn thousands() -> Case {
     let entered = [trust(&may_issue_all(1)), licence(1, &right())];
     let asked = preview(1, &right());
     let count = (65_536 - entered.concat().len()) / asked.len();
-    let mut pairs = vec![(entered[0].clone(), "TG +64 +0"), (entered[1].clone(), "LI +1 +1")];
-    pairs.extend(vec![(asked, "PV -1 -1"); count]);
+    let mut pairs = vec![(entered[0].clone(), "tg +64 +0"), (entered[1].clone(), "li +1 +1")];
+    pairs.extend(vec![(asked, "pv -1 -1"); count]);
     case("thousands of them", &pairs, 66)
 }
 
@@ -397,21 +397,21 @@ fn circles() -> Vec<Case> {
         let feed = plain(&conclusion);
         let all = length as i32;
         let mut records: Vec<Bytes> = links.iter().map(|(p, grant)| licence(*p, grant)).collect();
-        let mut answers = vec![nets("LI", 0, 0); length];
+        let mut answers = vec![nets("li", 0, 0); length];
         let previews = |records: &mut Vec<Bytes>| {
             records.extend(links.iter().map(|(p, grant)| preview(*p, grant)));
         };
         previews(&mut records);
-        answers.extend(vec![nets("PV", 0, 0); length]);
+        answers.extend(vec![nets("pv", 0, 0); length]);
         records.extend([licence(speaker, &feed), preview(speaker, &feed)]);
-        answers.extend([nets("LI", 0, all), nets("PV", 0, -all)]);
+        answers.extend([nets("li", 0, all), nets("pv", 0, -all)]);
         previews(&mut records);
         let behind = |i: usize| ((i + length - fed) % length) as i32;
-        answers.extend((0..length).map(|i| nets("PV", 0, -behind(i))));
+        answers.extend((0..length).map(|i| nets("pv", 0, -behind(i))));
         records.extend([withdraw(speaker, &feed), preview(speaker, &feed)]);
-        answers.extend([nets("WD", 0, -all), "refused 7".to_string()]);
+        answers.extend([nets("wd", 0, -all), "refused 7".to_string()]);
         previews(&mut records);
-        answers.extend(vec![nets("PV", 0, 0); length]);
+        answers.extend(vec![nets("pv", 0, 0); length]);
         Case::answers(GROUP, &format!("a circle of {length} licences"), &records, &answers, 0)
     };
     (1..=30).map(one).collect()
@@ -421,11 +421,11 @@ fn circles() -> Vec<Case> {
 fn each_row() -> Case {
     let issuer = |i: usize| (i % 16) as u8;
     let mut pairs: Vec<(Bytes, &str)> =
-        (0..64).map(|i| (licence(issuer(i), &simple(i)), "LI +0 +1")).collect();
+        (0..64).map(|i| (licence(issuer(i), &simple(i)), "li +0 +1")).collect();
     for i in (0..64).rev() {
         pairs.push((preview(issuer(i + 1), &simple(i)), "refused 7"));
         pairs.push((preview(issuer(i), &simple((i + 1) % 64)), "refused 7"));
-        pairs.push((preview(issuer(i), &simple(i)), "PV +0 -1"));
+        pairs.push((preview(issuer(i), &simple(i)), "pv +0 -1"));
     }
     case("of each of 64 rows", &pairs, 64)
 }
@@ -437,19 +437,19 @@ fn each_issuer() -> Case {
     for p in 0..16 {
         pairs.push((preview(p, &right()), "refused 7"));
         pairs.push(match firm(p) {
-            true => (licence(p, &right()), "LI +0 +1"),
-            false => (provisional(p, &right()), "PL +0 +0"),
+            true => (licence(p, &right()), "li +0 +1"),
+            false => (provisional(p, &right()), "pl +0 +0"),
         });
     }
     for p in (0..16).rev() {
-        pairs.push((preview(p, &right()), if firm(p) { "PV +0 -1" } else { "PV +0 +0" }));
+        pairs.push((preview(p, &right()), if firm(p) { "pv +0 -1" } else { "pv +0 +0" }));
     }
     case("of each issuer of one row", &pairs, 8)
 }
 
 /// So many licences of principal 3, then more records.
 fn after(count: usize, name: &str, more: &[(Bytes, &str)], marks: usize) -> Case {
-    let entered = |i: usize| (licence(3, &simple(i)), "LI +0 +1");
+    let entered = |i: usize| (licence(3, &simple(i)), "li +0 +1");
     case(name, &[(0..count).map(entered).collect::<Vec<_>>().as_slice(), more].concat(), marks)
 }
 
@@ -466,9 +466,9 @@ fn nearly_all_numbers() -> Case {
     let more = [
         (preview(0, &fresh(1)), "refused 7"),
         (preview(0, &holding(2)), "refused 7"),
-        (preview(3, &simple(62)), "PV +0 -1"),
-        (licence(0, &fresh(3)), "LI +0 +1"),
-        (preview(0, &fresh(3)), "PV +0 -1"),
+        (preview(3, &simple(62)), "pv +0 -1"),
+        (licence(0, &fresh(3)), "li +0 +1"),
+        (preview(0, &fresh(3)), "pv +0 -1"),
         (trust(&fresh(1)), "refused 6"),
         (preview(0, &fresh(1)), "refused 7"),
     ];
@@ -481,13 +481,13 @@ fn all_numbers() -> Case {
         (preview(0, &fresh(1)), "refused 7"),
         (preview(3, &holding(1)), "refused 7"),
         (trust(&fresh(1)), "refused 6"),
-        (preview(3, &simple(63)), "PV +0 -1"),
-        (preview(3, &simple(0)), "PV +0 -1"),
+        (preview(3, &simple(63)), "pv +0 -1"),
+        (preview(3, &simple(0)), "pv +0 -1"),
         (preview(4, &simple(0)), "refused 7"),
-        (withdraw(3, &simple(0)), "WD +0 -1"),
+        (withdraw(3, &simple(0)), "wd +0 -1"),
         (preview(3, &simple(0)), "refused 7"),
-        (licence(3, &simple(0)), "LI +0 +1"),
-        (preview(3, &simple(0)), "PV +0 -1"),
+        (licence(3, &simple(0)), "li +0 +1"),
+        (preview(3, &simple(0)), "pv +0 -1"),
     ];
     after(64, "64 numbers given", &more, 64)
 }
@@ -504,19 +504,19 @@ fn other_orders(depth: usize) -> Case {
     let repeated = deeper(&[b.clone(), a.clone(), b.clone(), a.clone()]);
     let another = deeper(&[a]);
     let pairs = [
-        (licence(0, &smart(2)), "LI +0 +1"),
-        (licence(1, &plain(&property(GOOD, 2))), "LI +0 +1"),
-        (licence(2, &one), "LI +0 +1"),
-        (preview(2, &other), "PV +0 -1"),
-        (preview(2, &repeated), "PV +0 -1"),
-        (preview(2, &one), "PV +0 -1"),
+        (licence(0, &smart(2)), "li +0 +1"),
+        (licence(1, &plain(&property(GOOD, 2))), "li +0 +1"),
+        (licence(2, &one), "li +0 +1"),
+        (preview(2, &other), "pv +0 -1"),
+        (preview(2, &repeated), "pv +0 -1"),
+        (preview(2, &one), "pv +0 -1"),
         (preview(2, &another), "refused 7"),
-        (withdraw(2, &repeated), "WD +0 -1"),
+        (withdraw(2, &repeated), "wd +0 -1"),
         (preview(2, &one), "refused 7"),
-        (provisional(2, &repeated), "PL +0 +0"),
-        (preview(2, &one), "PV +0 +0"),
-        (confirm(2, &other), "CF +0 +1"),
-        (preview(2, &repeated), "PV +0 -1"),
+        (provisional(2, &repeated), "pl +0 +0"),
+        (preview(2, &one), "pv +0 +0"),
+        (confirm(2, &other), "cf +0 +1"),
+        (preview(2, &repeated), "pv +0 -1"),
     ];
     case(&format!("conditions in another order, {depth} grants deep"), &pairs, 3)
 }

@@ -1,11 +1,11 @@
-//! Document 02, 6: what is wrong in the bytes of PV, with the answers written
+//! Document 02, 6: what is wrong in the bytes of pv, with the answers written
 //! out.
 
 use crate::case::{nets, Case};
 use crate::signature_faults::WRONG;
 use crate::write::*;
 
-const GROUP: &str = "document 02, 6: faults in PV";
+const GROUP: &str = "document 02, 6: faults in pv";
 
 pub fn cases() -> Vec<Case> {
     let mut cases = near_letters();
@@ -21,24 +21,25 @@ fn smart(principal: u8) -> Bytes {
 /// Letters that are nearly those of a record.
 fn near_letters() -> Vec<Case> {
     const NEAR: [&[u8; 2]; 11] =
-        [b"pv", b"Pv", b"pV", b"PU", b"PW", b"OV", b"QV", b"VP", b"PP", b"VV", b"P\xD6"];
-    const MIXED: [&[u8; 2]; 9] = [b"WV", b"PD", b"LV", b"CV", b"TV", b"SV", b"VL", b"VF", b"PG"];
+        [b"PV", b"Pv", b"pV", b"pu", b"pw", b"ov", b"qv", b"vp", b"pp", b"vv", b"p\xF6"];
+    const MIXED: [&[u8; 2]; 9] = [b"wv", b"pd", b"lv", b"cv", b"tv", b"sv", b"vl", b"vf", b"pg"];
     let one = |letters: &&[u8; 2]| {
-        let near = [letters.as_slice(), &[0], &smart(2)].concat();
+        let near = record(letters, &[&[0], smart(2).as_slice()].concat());
         let name = format!("letters {}", to_hex(letters.as_slice()));
         let records = [licence(0, &smart(2)), near, preview(0, &smart(2))];
-        Case::written(GROUP, &name, &records, &["1 LI +0 +1", "2 refused 2", "end 2 marks 1"])
+        Case::written(GROUP, &name, &records, &["1 li +0 +1", "2 refused 2", "end 2 marks 1"])
     };
     NEAR.iter().chain(&MIXED).map(one).collect()
 }
 
-/// The faults of the other records with an issuer.
+/// The faults of the other records with an issuer; what follows is read.
 fn faults() -> Vec<Case> {
-    let one = |(rest, number): &(&str, u8)| {
-        let bytes = hex(&format!("50 56 {rest}"));
-        let records = [trust(&smart(0)), licence(0, &smart(2)), bytes.clone()];
+    let one = |(content, number): &(&str, u8)| {
+        let bytes = record(b"pv", &hex(content));
+        let entered = [trust(&smart(0)), licence(0, &smart(2))].concat();
+        let records = [entered, bytes.clone(), preview(0, &smart(2))];
         let line = format!("3 refused {number}");
-        let lines = ["1 TG +1 +0", "2 LI +0 +1", &line, "end 3 marks 2"];
+        let lines = ["1 tg +1 +0", "2 li +0 +1", &line, "4 pv +0 -1", "end 4 marks 2"];
         Case::written(GROUP, &to_hex(&bytes), &records, &lines)
     };
     WRONG.iter().map(one).collect()
@@ -52,7 +53,7 @@ fn cut_at_every_byte() -> Vec<Case> {
     let mut cases = Vec::new();
     for (name, grant, sayings) in [("conditions", waits, 0), ("no conditions", speaks, 1_024)] {
         let (entered, whole) = (licence(1, &grant), preview(1, &grant));
-        let first = nets("LI", 0, sayings);
+        let first = nets("li", 0, sayings);
         for length in 1..whole.len() {
             let records = [entered.clone(), whole[..length].to_vec()];
             let answers = [first.clone(), "refused 1".to_string()];
@@ -60,8 +61,8 @@ fn cut_at_every_byte() -> Vec<Case> {
             cases.push(Case::answers(GROUP, &name, &records, &answers, sayings as usize));
         }
         let records = [entered.clone(), whole.clone(), entered, whole];
-        let seen = nets("PV", 0, -sayings);
-        let answers = [first, seen.clone(), nets("LI", 0, 0), seen];
+        let seen = nets("pv", 0, -sayings);
+        let answers = [first, seen.clone(), nets("li", 0, 0), seen];
         let name = format!("{name}, nothing cut");
         cases.push(Case::answers(GROUP, &name, &records, &answers, sayings as usize));
     }

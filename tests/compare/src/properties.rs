@@ -81,17 +81,17 @@ fn last_line(listing: &str) -> Result<LastLine, String> {
 /// refusal.
 fn signed_nets(answer: &str) -> Result<Pair, String> {
     match answer.split_once(' ') {
-        Some(("PL", "+0 +0")) => Ok(Pair { truths: 0, sayings: 0 }),
-        Some(("PL", _)) => Err("a provisional licence changes marks".to_string()),
-        Some(("TG" | "LI" | "CF", nets)) => match parse_nets(nets)? {
+        Some(("pl", "+0 +0")) => Ok(Pair { truths: 0, sayings: 0 }),
+        Some(("pl", _)) => Err("a provisional licence changes marks".to_string()),
+        Some(("tg" | "li" | "cf", nets)) => match parse_nets(nets)? {
             nets if nets.truths < 0 => Err("an entry loses truths".to_string()),
             nets if nets.sayings < 0 => Err("an entry loses sayings".to_string()),
             nets => Ok(nets),
         },
-        Some(("ST" | "WD", nets)) => parse_lost(nets),
-        Some(("PV", nets)) => parse_lost(nets).map(|_| Pair { truths: 0, sayings: 0 }),
-        Some(("QU", "permitted" | "not permitted" | "open"))
-        | Some(("refused", "1" | "2" | "3" | "4" | "5" | "6" | "7")) => {
+        Some(("st" | "wd", nets)) => parse_lost(nets),
+        Some(("pv", nets)) => parse_lost(nets).map(|_| Pair { truths: 0, sayings: 0 }),
+        Some(("qu", "permitted" | "not permitted" | "open"))
+        | Some(("refused", "1" | "2" | "3" | "4" | "5" | "6" | "7" | "10")) => {
             Ok(Pair { truths: 0, sayings: 0 })
         }
         _ => Err("unknown answer".to_string()),

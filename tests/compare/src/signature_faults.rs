@@ -1,10 +1,10 @@
-//! Document 02, 5: what is wrong in the bytes of PL and CF, with the answers
+//! Document 02, 5: what is wrong in the bytes of pl and cf, with the answers
 //! written out.
 
 use crate::case::{nets, Case};
 use crate::write::*;
 
-const GROUP: &str = "document 02, 5: faults in PL and CF";
+const GROUP: &str = "document 02, 5: faults in pl and cf";
 
 pub fn cases() -> Vec<Case> {
     let mut cases = near_letters();
@@ -20,12 +20,12 @@ fn smart(principal: u8) -> Bytes {
 /// Letters that are nearly those of a record.
 fn near_letters() -> Vec<Case> {
     const NEAR: [&[u8; 2]; 16] = [
-        b"pl", b"Pl", b"pL", b"PM", b"PK", b"QL", b"LP", b"PP", b"cf", b"Cf", b"cF", b"CG", b"CE",
-        b"DF", b"FC", b"CC",
+        b"PL", b"Pl", b"pL", b"pm", b"pk", b"ql", b"lp", b"pp", b"CF", b"Cf", b"cF", b"cg", b"ce",
+        b"df", b"fc", b"cc",
     ];
-    const MIXED: [&[u8; 2]; 8] = [b"PF", b"CL", b"LL", b"FF", b"PI", b"CD", b"LF", b"WF"];
+    const MIXED: [&[u8; 2]; 8] = [b"pf", b"cl", b"ll", b"ff", b"pi", b"cd", b"lf", b"wf"];
     let one = |letters: &&[u8; 2]| {
-        let record = [letters.as_slice(), &[0], &smart(2)].concat();
+        let record = record(letters, &[&[0], smart(2).as_slice()].concat());
         let name = format!("letters {}", to_hex(letters.as_slice()));
         let lines = ["1 refused 2", "end 1 marks 0"];
         Case::written(GROUP, &name, &[record, provisional(0, &smart(2))], &lines)
@@ -33,17 +33,17 @@ fn near_letters() -> Vec<Case> {
     NEAR.iter().chain(&MIXED).map(one).collect()
 }
 
-/// What may be wrong behind the letters, issuer first, and its number.
+/// What may be wrong in the content, issuer first, and its number.
 pub const WRONG: &[(&str, u8)] = &[
-    ("", 1),
+    ("", 10),
     ("10", 3),
     ("80", 3),
     ("81 03", 3),
     ("FF", 3),
-    ("0F", 1),
+    ("0F", 10),
     ("0F 03", 3),
     ("00 00 03", 3),
-    ("00 02 02", 1),
+    ("00 02 02", 10),
     ("00 00 00 05", 3),
     ("00 00 00 01 10", 3),
     ("00 00 00 01 80", 4),
@@ -67,18 +67,18 @@ pub const WRONG: &[(&str, u8)] = &[
     ("00 00 00 00 01 00 00 00 00 00 01 00 00 00 00 00 01 00 00 00 00 00 01 00 02", 3),
 ];
 
-/// The same faults in both records.
+/// The same faults in both records; what follows is read.
 fn faults() -> Vec<Case> {
     let mut cases = Vec::new();
-    for letters in ["50 4C", "43 46"] {
-        for (rest, number) in WRONG {
-            let bytes = hex(&format!("{letters} {rest}"));
+    for letters in [b"pl", b"cf"] {
+        for (content, number) in WRONG {
+            let bytes = record(letters, &hex(content));
             let line = format!("2 refused {number}");
             cases.push(Case::written(
                 GROUP,
                 &to_hex(&bytes),
-                &[trust(&smart(0)), bytes.clone()],
-                &["1 TG +1 +0", &line, "end 2 marks 1"],
+                &[trust(&smart(0)), bytes.clone(), query(&property(0, 0))],
+                &["1 tg +1 +0", &line, "3 qu permitted", "end 3 marks 1"],
             ));
         }
     }
@@ -94,13 +94,13 @@ fn cut_at_every_byte() -> Vec<Case> {
     for length in 1..whole.len() {
         let cut = |record: &Bytes| record[..length].to_vec();
         let first = [trust(&smart(0)), cut(&whole)];
-        let lines = ["1 TG +1 +0", "2 refused 1", "end 2 marks 1"];
-        cases.push(Case::written(GROUP, &format!("PL, {length} bytes"), &first, &lines));
+        let lines = ["1 tg +1 +0", "2 refused 1", "end 2 marks 1"];
+        cases.push(Case::written(GROUP, &format!("pl, {length} bytes"), &first, &lines));
         let second = [whole.clone(), cut(&confirmed)];
-        let lines = ["1 PL +0 +0", "2 refused 1", "end 2 marks 0"];
-        cases.push(Case::written(GROUP, &format!("CF, {length} bytes"), &second, &lines));
+        let lines = ["1 pl +0 +0", "2 refused 1", "end 2 marks 0"];
+        cases.push(Case::written(GROUP, &format!("cf, {length} bytes"), &second, &lines));
     }
-    let answers = [nets("PL", 0, 0), nets("CF", 0, 0), "refused 7".to_string()];
+    let answers = [nets("pl", 0, 0), nets("cf", 0, 0), "refused 7".to_string()];
     let records = [whole, confirmed.clone(), confirmed];
     cases.push(Case::answers(GROUP, "nothing cut", &records, &answers, 0));
     cases

@@ -64,7 +64,7 @@ pub fn simple(i: usize) -> Bytes {
 }
 
 fn simple_entries(count: usize) -> (Vec<Bytes>, Vec<String>) {
-    ((0..count).map(|i| trust(&simple(i))).collect(), vec![nets("TG", 1, 0); count])
+    ((0..count).map(|i| trust(&simple(i))).collect(), vec![nets("tg", 1, 0); count])
 }
 
 /// Records at a nearly full and a full table, with the answers written out.
@@ -91,9 +91,9 @@ pub fn full_tables() -> Vec<Case> {
                 (trust(&holding(1)), refused()),
                 (licence(3, &holding(1)), refused()),
                 (query(&issue(3, &holding(1))), refused()),
-                (trust(&fresh(1)), nets("TG", 1, 0)),
+                (trust(&fresh(1)), nets("tg", 1, 0)),
                 (trust(&holding(1)), refused()),
-                (licence(3, &fresh(1)), nets("LI", 0, 1)),
+                (licence(3, &fresh(1)), nets("li", 0, 1)),
             ],
             65,
         ),
@@ -101,10 +101,10 @@ pub fn full_tables() -> Vec<Case> {
             "62 grants: one with a new inner grant fits",
             62,
             vec![
-                (trust(&holding(1)), nets("TG", 1, 0)),
-                (query(&issue(0, &fresh(1))), "QU permitted".to_string()),
+                (trust(&holding(1)), nets("tg", 1, 0)),
+                (query(&issue(0, &fresh(1))), "qu permitted".to_string()),
                 (query(&issue(0, &fresh(2))), refused()),
-                (query(&property(0, 0)), "QU permitted".to_string()),
+                (query(&property(0, 0)), "qu permitted".to_string()),
             ],
             63,
         ),
@@ -112,8 +112,8 @@ pub fn full_tables() -> Vec<Case> {
             "62 grants: the same new inner grant twice counts once",
             62,
             vec![
-                (trust(&holding_twice), nets("TG", 0, 0)),
-                (trust(&fresh(1)), nets("TG", 1, 0)),
+                (trust(&holding_twice), nets("tg", 0, 0)),
+                (trust(&fresh(1)), nets("tg", 1, 0)),
                 (trust(&fresh(2)), refused()),
             ],
             63,
@@ -128,14 +128,14 @@ pub fn full_tables() -> Vec<Case> {
             "64 grants: what has a number is still accepted",
             64,
             vec![
-                (trust(&simple(63)), nets("TG", 0, 0)),
-                (licence(15, &simple(0)), nets("LI", 0, 1)),
-                (strike(&simple(5)), nets("ST", -1, 0)),
+                (trust(&simple(63)), nets("tg", 0, 0)),
+                (licence(15, &simple(0)), nets("li", 0, 1)),
+                (strike(&simple(5)), nets("st", -1, 0)),
                 (strike(&simple(5)), "refused 7".to_string()),
-                (trust(&simple(5)), nets("TG", 1, 0)),
+                (trust(&simple(5)), nets("tg", 1, 0)),
                 (withdraw(15, &simple(1)), "refused 7".to_string()),
-                (withdraw(15, &simple(0)), nets("WD", 0, -1)),
-                (query(&issue(7, &simple(9))), "QU not permitted".to_string()),
+                (withdraw(15, &simple(0)), nets("wd", 0, -1)),
+                (query(&issue(7, &simple(9))), "qu not permitted".to_string()),
             ],
             64,
         ),
@@ -149,7 +149,7 @@ pub fn full_tables() -> Vec<Case> {
                 (strike(&fresh(1)), "refused 7".to_string()),
                 (withdraw(0, &holding(1)), "refused 7".to_string()),
                 (trust(&plain(&issue(0, &simple(0)))), refused()),
-                (query(&run(0, 0)), "QU not permitted".to_string()),
+                (query(&run(0, 0)), "qu not permitted".to_string()),
             ],
             64,
         ),
@@ -160,10 +160,10 @@ pub fn full_tables() -> Vec<Case> {
                 (strike(&fresh(1)), "refused 7".to_string()),
                 (withdraw(0, &holding(2)), "refused 7".to_string()),
                 (trust(&holding(3)), refused()),
-                (trust(&fresh(4)), nets("TG", 1, 0)),
+                (trust(&fresh(4)), nets("tg", 1, 0)),
                 (query(&issue(0, &fresh(1))), refused()),
                 (query(&issue(0, &fresh(3))), refused()),
-                (query(&issue(0, &fresh(4))), "QU not permitted".to_string()),
+                (query(&issue(0, &fresh(4))), "qu not permitted".to_string()),
             ],
             64,
         ),
@@ -171,8 +171,8 @@ pub fn full_tables() -> Vec<Case> {
             "a number is kept after the grant is struck",
             64,
             (0..64)
-                .map(|i| (strike(&simple(i)), nets("ST", -1, 0)))
-                .chain([(trust(&fresh(1)), refused()), (trust(&simple(8)), nets("TG", 1, 0))])
+                .map(|i| (strike(&simple(i)), nets("st", -1, 0)))
+                .chain([(trust(&fresh(1)), refused()), (trust(&simple(8)), nets("tg", 1, 0))])
                 .collect(),
             1,
         ),
@@ -190,23 +190,23 @@ fn grants_of_depth_4(group: &'static str) -> Case {
         plain(&issue(i, &plain(&issue(i, &second))))
     };
     let mut records: Vec<Bytes> = (0..16).map(|i| trust(&chain(i))).collect();
-    let mut answers = vec![nets("TG", 1, 0); 16];
+    let mut answers = vec![nets("tg", 1, 0); 16];
     records.push(trust(&plain(&property(1, 0))));
     answers.push("refused 6".to_string());
     records.push(licence(3, &plain(&property(3, 3))));
-    answers.push(nets("LI", 0, 1));
+    answers.push(nets("li", 0, 1));
     Case::answers(group, "sixteen grants of depth 4", &records, &answers, 17)
 }
 
 /// Queries give numbers too.
 fn numbers_from_queries(group: &'static str) -> Case {
     let mut records: Vec<Bytes> = (0..65).map(|i| query(&issue(0, &simple(i)))).collect();
-    let mut answers = vec!["QU not permitted".to_string(); 64];
+    let mut answers = vec!["qu not permitted".to_string(); 64];
     answers.push("refused 6".to_string());
     records.push(strike(&simple(3)));
     answers.push("refused 7".to_string());
     records.push(trust(&simple(3)));
-    answers.push(nets("TG", 1, 0));
+    answers.push(nets("tg", 1, 0));
     Case::answers(group, "64 grants numbered by queries", &records, &answers, 1)
 }
 
@@ -221,11 +221,11 @@ fn numbers_not_given(group: &'static str) -> Case {
         query(&property(10, 0)),
     ];
     let answers = [
-        nets("TG", 64, 0),
-        "QU permitted".to_string(),
-        nets("LI", 1, 1),
-        nets("LI", 1, 1),
-        "QU permitted".to_string(),
+        nets("tg", 64, 0),
+        "qu permitted".to_string(),
+        nets("li", 1, 1),
+        nets("li", 1, 1),
+        "qu permitted".to_string(),
     ];
     Case::answers(group, "rights over numbers not given", &records, &answers, 68)
 }

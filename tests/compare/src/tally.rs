@@ -31,7 +31,7 @@ impl Tally {
     /// Whether enough of the queries are open, and no kind of answer is rare.
     pub fn enough_open(&self) -> Check {
         let count = |kind: &str| self.counts.get(kind).copied().unwrap_or(0);
-        let [open, permitted, not] = ["QU open", "QU permitted", "QU not permitted"].map(count);
+        let [open, permitted, not] = ["qu open", "qu permitted", "qu not permitted"].map(count);
         let queries = open + permitted + not;
         let enough = open * OPEN_IN >= queries && permitted * OPEN_IN >= queries && queries > 0;
         let fault = format!("{open} open and {permitted} permitted of {queries} queries");
@@ -43,7 +43,7 @@ impl Tally {
         let of = |start: &str| -> usize {
             self.counts.iter().filter(|(kind, _)| kind.starts_with(start)).map(|(_, n)| n).sum()
         };
-        let [all, accepted, falling] = ["", "PV ", "PV loss"].map(of);
+        let [all, accepted, falling] = ["", "pv ", "pv loss"].map(of);
         let enough = accepted * PREVIEW_IN >= all && falling * FALLING_IN >= accepted && all > 0;
         let fault = format!("{accepted} accepted, in {falling} rights fall, of {all} records");
         Check { group: ENOUGH_PREVIEWS, fault: (!enough).then_some(fault) }

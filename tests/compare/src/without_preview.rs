@@ -6,7 +6,7 @@ use crate::program::Program;
 use crate::properties::{answers, marks_printed};
 use crate::random::Random;
 use crate::write::Bytes;
-use reference::reader::{read_record, Record};
+use reference::reader::{frames, Record};
 
 pub const TAKEN_OUT: &str = "property: previews change no other answer";
 pub const WITHDRAWN: &str = "property: a preview and the withdrawal in its place";
@@ -41,14 +41,10 @@ pub fn checks(program: &Program, journal: &[u8], printed: &str, random: &mut Ran
 
 fn previews(journal: &[u8]) -> Vec<Preview> {
     let mut found = Vec::new();
-    let (mut start, mut place) = (0, 0);
-    while let Ok((record, length)) = read_record(&journal[start..]) {
-        let end = start + length;
-        if let Record::PreviewWithdrawal(..) = record {
-            found.push(Preview { place, start, end });
+    for (place, (start, frame)) in frames(journal).enumerate() {
+        if let Ok(Record::PreviewWithdrawal(..)) = frame.record() {
+            found.push(Preview { place, start, end: start + frame.length() });
         }
-        start = end;
-        place += 1;
     }
     found
 }
@@ -82,9 +78,9 @@ fn withdrawn(
     preview: &Preview,
 ) -> Result<(), String> {
     let &Preview { place, start, end } = preview;
-    let copy: Bytes = [&journal[..start], b"WD", &journal[start + 2..end]].concat();
+    let copy: Bytes = [&journal[..start], b"wd", &journal[start + 2..end]].concat();
     let again = program.listing(&copy)?;
-    let seen = answers(printed).get(place).map(|answer| answer.replace("PV ", "WD "));
+    let seen = answers(printed).get(place).map(|answer| answer.replace("pv ", "wd "));
     match (seen, answers(&again).get(place)) {
         (Some(seen), Some(&found)) if seen == found => Ok(()),
         (seen, found) => Err(format!("record {place} (from 0): {seen:?}, withdrawn {found:?}")),

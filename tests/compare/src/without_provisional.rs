@@ -9,7 +9,7 @@ use crate::properties::answers;
 use crate::write::*;
 use reference::listing::LONGEST_JOURNAL;
 use reference::machine::Machine;
-use reference::reader::{read_record, Record};
+use reference::reader::{frames, Record};
 
 pub const TAKEN_AS_FIRM: &str = "property: provisional licences taken as firm";
 pub const LEFT_OUT: &str = "property: provisional licences left out until they are confirmed";
@@ -25,7 +25,7 @@ struct Rewritten {
 /// Judges the answers that the program printed for a journal by what it prints
 /// for the other two. Without a provisional licence there is nothing to judge.
 pub fn checks(program: &Program, journal: &[u8], printed: &str) -> Vec<Check> {
-    if !answers(printed).contains(&"PL +0 +0") {
+    if !answers(printed).contains(&"pl +0 +0") {
         return Vec::new();
     }
     let firm = rewrite(journal, taken_as_firm);
@@ -42,43 +42,47 @@ pub fn checks(program: &Program, journal: &[u8], printed: &str) -> Vec<Check> {
 /// Whether the answer of a record fits that of the record written for it.
 type Fits = fn(&str, &str) -> bool;
 
-/// Writes each record that can be read anew or leaves it out; what cannot be
-/// read any more stays as it is.
+/// Writes each record that can be read anew or leaves it out; the others and
+/// what ends the reading stay as they are.
 fn rewrite(journal: &[u8], mut anew: impl FnMut(&Record, &[u8]) -> Option<Bytes>) -> Rewritten {
     let mut rewritten = Rewritten::default();
-    let (mut rest, mut place) = (journal, 0);
-    while let Ok((record, length)) = read_record(rest) {
-        if let Some(bytes) = anew(&record, &rest[..length]) {
-            rewritten.journal.extend(bytes);
+    let (mut end, mut count) = (0, 0);
+    for (place, (start, frame)) in frames(journal).enumerate() {
+        (end, count) = (start + frame.length(), place + 1);
+        let bytes = &journal[start..end];
+        let written = match frame.record() {
+            Ok(record) => anew(&record, bytes),
+            Err(_) => Some(bytes.to_vec()),
+        };
+        if let Some(written) = written {
+            rewritten.journal.extend(written);
             rewritten.places.push(place);
         }
-        rest = &rest[length..];
-        place += 1;
     }
-    if !rest.is_empty() {
-        rewritten.journal.extend(rest);
-        rewritten.places.push(place);
+    if end < journal.len() {
+        rewritten.journal.extend(&journal[end..]);
+        rewritten.places.push(count);
     }
     rewritten
 }
 
-/// PL as LI, and no CF.
+/// pl as li, and no cf.
 fn taken_as_firm(record: &Record, bytes: &[u8]) -> Option<Bytes> {
     match record {
-        Record::EnterProvisional(issuer, _) => Some(licence(*issuer, &bytes[3..])),
+        Record::EnterProvisional(issuer, _) => Some(licence(*issuer, &bytes[CONTENT + 1..])),
         Record::Confirm(..) => None,
         _ => Some(bytes.to_vec()),
     }
 }
 
-/// PL as a query that gives the same numbers; CF as LI where it is accepted;
-/// and no WD or PV of a provisional licence.
+/// pl as a query that gives the same numbers; cf as li where it is accepted;
+/// and no wd or pv of a provisional licence.
 fn left_out(machine: &mut Machine, record: &Record, bytes: &[u8]) -> Option<Bytes> {
     let waiting = machine.provisional.len();
     let accepted = machine.feed(record).is_ok();
     match record {
-        Record::EnterProvisional(issuer, _) => Some(query(&issue(*issuer, &bytes[3..]))),
-        Record::Confirm(issuer, _) => accepted.then(|| licence(*issuer, &bytes[3..])),
+        Record::EnterProvisional(issuer, _) => Some(query(&issue(*issuer, &bytes[CONTENT + 1..]))),
+        Record::Confirm(issuer, _) => accepted.then(|| licence(*issuer, &bytes[CONTENT + 1..])),
         Record::WithdrawLicence(..) if machine.provisional.len() < waiting => None,
         Record::PreviewWithdrawal(issuer, grant)
             if machine.provisional.contains(&(*issuer, grant.clone())) =>
@@ -93,9 +97,9 @@ fn left_out(machine: &mut Machine, record: &Record, bytes: &[u8]) -> Option<Byte
 /// open.
 fn fits_firm(answer: &str, anew: &str) -> bool {
     match (&answer[..3], answer) {
-        (_, "QU open") => anew == "QU permitted",
-        ("PL ", _) => anew.starts_with("LI "),
-        (letters @ ("TG " | "ST " | "LI " | "WD " | "PV "), _) => anew.starts_with(letters),
+        (_, "qu open") => anew == "qu permitted",
+        ("pl ", _) => anew.starts_with("li "),
+        (letters @ ("tg " | "st " | "li " | "wd " | "pv "), _) => anew.starts_with(letters),
         _ => anew == answer,
     }
 }
@@ -103,9 +107,9 @@ fn fits_firm(answer: &str, anew: &str) -> bool {
 /// Changes have the same nets; a query is permitted only where it was so.
 fn fits_left_out(answer: &str, anew: &str) -> bool {
     match answer.split_at(3) {
-        ("PL ", _) => anew.starts_with("QU "),
-        ("QU ", "open") => anew == "QU not permitted",
-        ("CF ", nets) => anew.strip_prefix("LI ") == Some(nets),
+        ("pl ", _) => anew.starts_with("qu "),
+        ("qu ", "open") => anew == "qu not permitted",
+        ("cf ", nets) => anew.strip_prefix("li ") == Some(nets),
         _ => anew == answer,
     }
 }

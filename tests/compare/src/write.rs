@@ -59,43 +59,75 @@ pub fn for_all(principals: u8, resource: u8, conditions: &[Bytes], conclusion: &
     [&head, conditions.concat().as_slice(), conclusion].concat()
 }
 
+/// A record: its letters, two bytes with the length of its content, high byte
+/// first, and the content.
+pub fn record(letters: &[u8; 2], content: &[u8]) -> Bytes {
+    stating(letters, content.len(), content)
+}
+
+/// A record whose length may be stated wrongly.
+pub fn stating(letters: &[u8; 2], length: usize, content: &[u8]) -> Bytes {
+    let length = u16::try_from(length).expect("a length has two bytes").to_be_bytes();
+    [letters.as_slice(), &length, content].concat()
+}
+
+/// The letters of the eight kinds of record.
+pub const LETTERS: [&[u8; 2]; 8] = [b"tg", b"st", b"li", b"wd", b"pv", b"pl", b"cf", b"qu"];
+
+/// Where the content of a record starts.
+pub const CONTENT: usize = 4;
+
+/// A record of an issuer and a grant.
+fn of_licence(letters: &[u8; 2], issuer: u8, grant: &[u8]) -> Bytes {
+    record(letters, &[&[issuer], grant].concat())
+}
+
 pub fn trust(grant: &[u8]) -> Bytes {
-    [b"TG", grant].concat()
+    record(b"tg", grant)
 }
 
 pub fn strike(grant: &[u8]) -> Bytes {
-    [b"ST", grant].concat()
+    record(b"st", grant)
 }
 
 pub fn licence(issuer: u8, grant: &[u8]) -> Bytes {
-    [b"LI", [issuer].as_slice(), grant].concat()
+    of_licence(b"li", issuer, grant)
 }
 
 pub fn withdraw(issuer: u8, grant: &[u8]) -> Bytes {
-    [b"WD", [issuer].as_slice(), grant].concat()
+    of_licence(b"wd", issuer, grant)
 }
 
 /// Asks what a withdrawal would change.
 pub fn preview(issuer: u8, grant: &[u8]) -> Bytes {
-    [b"PV", [issuer].as_slice(), grant].concat()
+    of_licence(b"pv", issuer, grant)
 }
 
 /// Enters a provisional licence.
 pub fn provisional(issuer: u8, grant: &[u8]) -> Bytes {
-    [b"PL", [issuer].as_slice(), grant].concat()
+    of_licence(b"pl", issuer, grant)
 }
 
 /// Makes a provisional licence firm.
 pub fn confirm(issuer: u8, grant: &[u8]) -> Bytes {
-    [b"CF", [issuer].as_slice(), grant].concat()
+    of_licence(b"cf", issuer, grant)
 }
 
 pub fn query(conclusion: &[u8]) -> Bytes {
-    [b"QU", conclusion].concat()
+    record(b"qu", conclusion)
 }
 
-/// Bytes from their hexadecimal form, blanks ignored.
+/// Bytes from their hexadecimal form, blanks ignored. Brackets stand around the
+/// content of a record, whose length is written for the first of them.
 pub fn hex(text: &str) -> Bytes {
+    let Some((before, rest)) = text.split_once('[') else { return digits(text) };
+    let (content, after) = rest.split_once(']').expect("a bracket has its other");
+    let content = digits(content);
+    let length = (content.len() as u16).to_be_bytes();
+    [digits(before), length.to_vec(), content, hex(after)].concat()
+}
+
+fn digits(text: &str) -> Bytes {
     let digits: Vec<u32> = text.chars().filter_map(|c| c.to_digit(16)).collect();
     digits.chunks(2).map(|pair| (pair[0] * 16 + pair[1]) as u8).collect()
 }

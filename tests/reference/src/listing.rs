@@ -3,7 +3,7 @@
 use crate::bottom_up::standing_statements;
 use crate::machine::Machine;
 use crate::numbered::closed_conclusion;
-use crate::reader::{read_record, Record, Refusal};
+use crate::reader::{read_frame, Record, Refusal};
 use crate::sorts::{Conclusion, Count, Marks, Statement};
 
 pub const LONGEST_JOURNAL: usize = 65_536;
@@ -129,23 +129,26 @@ impl Book {
 }
 
 /// Reads a journal of any length record by record, up to its end or a
-/// refusal 1 to 5, and shows each entry with the book as the record left it.
+/// refusal 1 or 2, and shows each entry with the book as the record left it.
+/// Where the content is at fault there is no record to show.
 pub fn replay(journal: &[u8], mut show: impl FnMut(&Entry, Option<&Record>, &Book)) -> Book {
     let mut book = Book::fresh();
     let mut start = 0;
     while start < journal.len() {
-        match read_record(&journal[start..]) {
-            Ok((record, length)) => {
-                let outcome = book.call(&record);
-                show(&Entry { start, length, outcome }, Some(&record), &book);
-                start += length;
-            }
+        let frame = match read_frame(&journal[start..]) {
+            Ok(frame) => frame,
             Err(refusal) => {
-                let outcome = Outcome::Refused(refusal);
-                show(&Entry { start, length: 0, outcome }, None, &book);
+                show(&Entry { start, length: 0, outcome: Outcome::Refused(refusal) }, None, &book);
                 break;
             }
-        }
+        };
+        let (length, record) = (frame.length(), frame.record());
+        let outcome = match &record {
+            Ok(record) => book.call(record),
+            Err(refusal) => Outcome::Refused(*refusal),
+        };
+        show(&Entry { start, length, outcome }, record.as_ref().ok(), &book);
+        start += length;
     }
     book
 }
@@ -173,8 +176,8 @@ pub fn listing(journal: &[u8]) -> Listing {
 fn outcome_words(outcome: Outcome) -> String {
     match outcome {
         Outcome::Changed { letters, nets } => changed_words(letters, nets),
-        Outcome::Previewed(nets) => changed_words("PV", nets),
-        Outcome::Queried(answer) => format!("QU {}", answer.words()),
+        Outcome::Previewed(nets) => changed_words("pv", nets),
+        Outcome::Queried(answer) => format!("qu {}", answer.words()),
         Outcome::Refused(refusal) => format!("refused {}", refusal.number()),
     }
 }

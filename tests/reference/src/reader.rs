@@ -1,5 +1,7 @@
-//! Reads one record from the front of some bytes. Each byte is judged as it
-//! is read, so the first fault from left to right decides.
+//! Reads one record from the front of some bytes: two letters, two bytes with
+//! the number of bytes that follow, high byte first, and these bytes, the
+//! content. Each byte is judged as it is read, so the first fault from left to
+//! right decides.
 
 use crate::grant::{
     ConclusionTree, Condition, Grant, GrantTerm, PackTerm, PrincipalTerm, ResourceVariable,
@@ -17,6 +19,8 @@ pub enum Refusal {
     TooDeep,
     TableFull,
     NotStanding,
+    /// The content needs fewer or more bytes than the stated length.
+    WrongLength,
 }
 
 impl Refusal {
@@ -29,6 +33,7 @@ impl Refusal {
             Refusal::TooDeep => 5,
             Refusal::TableFull => 6,
             Refusal::NotStanding => 7,
+            Refusal::WrongLength => 10,
         }
     }
 }
@@ -48,14 +53,14 @@ pub enum Record {
 impl Record {
     pub fn letters(&self) -> &'static str {
         match self {
-            Record::EnterTrusted(_) => "TG",
-            Record::StrikeTrusted(_) => "ST",
-            Record::IssueLicence(..) => "LI",
-            Record::WithdrawLicence(..) => "WD",
-            Record::PreviewWithdrawal(..) => "PV",
-            Record::EnterProvisional(..) => "PL",
-            Record::Confirm(..) => "CF",
-            Record::Query(_) => "QU",
+            Record::EnterTrusted(_) => "tg",
+            Record::StrikeTrusted(_) => "st",
+            Record::IssueLicence(..) => "li",
+            Record::WithdrawLicence(..) => "wd",
+            Record::PreviewWithdrawal(..) => "pv",
+            Record::EnterProvisional(..) => "pl",
+            Record::Confirm(..) => "cf",
+            Record::Query(_) => "qu",
         }
     }
 
@@ -79,12 +84,81 @@ impl Record {
     }
 }
 
-/// The first record in the bytes, its grants ordered, and how many bytes it
-/// takes. Faults, and how many conditions there are, are judged as written.
-pub fn read_record(bytes: &[u8]) -> Result<(Record, usize), Refusal> {
-    let mut reader = Reader { bytes, used: 0 };
-    let record = reader.record()?;
-    Ok((record.ordered(), reader.used))
+/// The eight kinds of record, by their letters.
+#[derive(Clone, Copy, Debug, PartialEq, Eq)]
+enum Kind {
+    EnterTrusted,
+    StrikeTrusted,
+    IssueLicence,
+    WithdrawLicence,
+    PreviewWithdrawal,
+    EnterProvisional,
+    Confirm,
+    Query,
+}
+
+impl Kind {
+    fn of(letters: [u8; 2]) -> Option<Kind> {
+        match &letters {
+            b"tg" => Some(Kind::EnterTrusted),
+            b"st" => Some(Kind::StrikeTrusted),
+            b"li" => Some(Kind::IssueLicence),
+            b"wd" => Some(Kind::WithdrawLicence),
+            b"pv" => Some(Kind::PreviewWithdrawal),
+            b"pl" => Some(Kind::EnterProvisional),
+            b"cf" => Some(Kind::Confirm),
+            b"qu" => Some(Kind::Query),
+            _ => None,
+        }
+    }
+}
+
+/// Where a record ends and the next may start, whatever is wrong inside it.
+pub struct Frame<'a> {
+    kind: Kind,
+    content: &'a [u8],
+}
+
+/// The frame of the first record in the bytes. What is refused here, with 1 or
+/// 2, ends the reading: the letters are judged first, then whether the bytes of
+/// the length are there, then whether the input has so many bytes more.
+pub fn read_frame(bytes: &[u8]) -> Result<Frame<'_>, Refusal> {
+    let [first, second, after_letters @ ..] = bytes else { return Err(Refusal::MissingByte) };
+    let kind = Kind::of([*first, *second]).ok_or(Refusal::UnknownLetters)?;
+    let [high, low, rest @ ..] = after_letters else { return Err(Refusal::MissingByte) };
+    let stated = usize::from(*high) * 256 + usize::from(*low);
+    let content = rest.get(..stated).ok_or(Refusal::MissingByte)?;
+    Ok(Frame { kind, content })
+}
+
+impl Frame<'_> {
+    /// The bytes of the whole record.
+    pub fn length(&self) -> usize {
+        2 + 2 + self.content.len()
+    }
+
+    /// The record, its grants ordered. Faults, and how many conditions there are,
+    /// are judged as written. A byte that is needed behind the content, and one
+    /// that is left over in it, is a fault of the length.
+    pub fn record(&self) -> Result<Record, Refusal> {
+        let mut reader = Reader { bytes: self.content, used: 0 };
+        let record = reader.record(self.kind)?;
+        match reader.used == self.content.len() {
+            true => Ok(record.ordered()),
+            false => Err(Refusal::WrongLength),
+        }
+    }
+}
+
+/// The frames of a journal, each with its start, up to what ends the reading.
+pub fn frames(journal: &[u8]) -> impl Iterator<Item = (usize, Frame<'_>)> {
+    let mut start = 0;
+    std::iter::from_fn(move || {
+        let frame = read_frame(&journal[start..]).ok()?;
+        let found = start;
+        start += frame.length();
+        Some((found, frame))
+    })
 }
 
 /// The variables a grant declares; a query declares none.
@@ -103,7 +177,7 @@ struct Reader<'a> {
 
 impl Reader<'_> {
     fn byte(&mut self) -> Result<u8, Refusal> {
-        let byte = self.bytes.get(self.used).copied().ok_or(Refusal::MissingByte)?;
+        let byte = self.bytes.get(self.used).copied().ok_or(Refusal::WrongLength)?;
         self.used += 1;
         Ok(byte)
     }
@@ -115,19 +189,23 @@ impl Reader<'_> {
         }
     }
 
-    fn record(&mut self) -> Result<Record, Refusal> {
-        let letters = [self.byte()?, self.byte()?];
-        match &letters {
-            b"TG" => Ok(Record::EnterTrusted(self.grant(1)?)),
-            b"ST" => Ok(Record::StrikeTrusted(self.grant(1)?)),
-            b"LI" => Ok(Record::IssueLicence(self.byte_up_to(0x0F)?, self.grant(1)?)),
-            b"WD" => Ok(Record::WithdrawLicence(self.byte_up_to(0x0F)?, self.grant(1)?)),
-            b"PV" => Ok(Record::PreviewWithdrawal(self.byte_up_to(0x0F)?, self.grant(1)?)),
-            b"PL" => Ok(Record::EnterProvisional(self.byte_up_to(0x0F)?, self.grant(1)?)),
-            b"CF" => Ok(Record::Confirm(self.byte_up_to(0x0F)?, self.grant(1)?)),
-            b"QU" => Ok(Record::Query(self.conclusion(NOTHING_DECLARED, 0)?)),
-            _ => Err(Refusal::UnknownLetters),
+    fn record(&mut self, kind: Kind) -> Result<Record, Refusal> {
+        match kind {
+            Kind::EnterTrusted => Ok(Record::EnterTrusted(self.grant(1)?)),
+            Kind::StrikeTrusted => Ok(Record::StrikeTrusted(self.grant(1)?)),
+            Kind::IssueLicence => self.licence(Record::IssueLicence),
+            Kind::WithdrawLicence => self.licence(Record::WithdrawLicence),
+            Kind::PreviewWithdrawal => self.licence(Record::PreviewWithdrawal),
+            Kind::EnterProvisional => self.licence(Record::EnterProvisional),
+            Kind::Confirm => self.licence(Record::Confirm),
+            Kind::Query => Ok(Record::Query(self.conclusion(NOTHING_DECLARED, 0)?)),
         }
+    }
+
+    /// An issuer, then a grant.
+    fn licence(&mut self, asked: fn(u8, Grant) -> Record) -> Result<Record, Refusal> {
+        let issuer = self.byte_up_to(0x0F)?;
+        Ok(asked(issuer, self.grant(1)?))
     }
 
     fn grant(&mut self, depth: u8) -> Result<Grant, Refusal> {
