@@ -2,7 +2,7 @@
 
 use crate::case::{Case, Expected};
 use crate::program::Program;
-use crate::properties::{answers, sums_and_signs};
+use crate::properties::{answers, marks_printed, sums_and_signs};
 use crate::random::Random;
 use crate::without_preview;
 use crate::without_provisional;
@@ -49,7 +49,7 @@ pub fn check(program: &Program, case: &Case, reference: &Listing, seed: u64) -> 
 }
 
 /// The first line in which two listings differ.
-fn difference(expected: &str, printed: &str) -> Option<String> {
+pub fn difference(expected: &str, printed: &str) -> Option<String> {
     if expected == printed {
         return None;
     }
@@ -67,8 +67,9 @@ fn difference(expected: &str, printed: &str) -> Option<String> {
     }
 }
 
-/// Takes some of the records that the program refused, other than with 1 or 2,
-/// out of the journal; the other records must have the answers they had.
+/// Takes some or all of the records that the program refused, other than with 1
+/// or 2, out of the journal; the other records must have the answers they had,
+/// and as many marks stand.
 fn without_refused(program: &Program, case: &Case, printed: &str, seed: u64) -> Option<Check> {
     let answered = answers(printed);
     let removed = some_refused(&answered, &mut Random::new(seed, &case.name))?;
@@ -77,8 +78,13 @@ fn without_refused(program: &Program, case: &Case, printed: &str, seed: u64) -> 
     let kept: Vec<&str> =
         places.filter(|(place, _)| !removed.contains(place)).map(|(_, answer)| answer).collect();
     let fault = match program.listing(&shorter) {
-        Ok(again) if answers(&again) == kept => None,
-        Ok(_) => Some(format!("answers change without the records {removed:?} (from 0)")),
+        Ok(again) if answers(&again) != kept => {
+            Some(format!("answers change without the records {removed:?} (from 0)"))
+        }
+        Ok(again) if marks_printed(&again) != marks_printed(printed) => {
+            Some(format!("marks change without the records {removed:?} (from 0)"))
+        }
+        Ok(_) => None,
         Err(error) => Some(error),
     };
     Some(Check { group: REFUSED_REMOVED, fault })
@@ -93,7 +99,8 @@ fn some_refused(answered: &[&str], random: &mut Random) -> Option<Vec<usize>> {
         return None;
     }
     let always = *random.choose(&refused);
-    Some(refused.into_iter().filter(|&place| place == always || random.percent(50)).collect())
+    let share = *random.choose(&[50, 100]);
+    Some(refused.into_iter().filter(|&place| place == always || random.percent(share)).collect())
 }
 
 /// Whether an answer is a refusal after which the next record is read.

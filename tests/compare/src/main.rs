@@ -1,7 +1,7 @@
 //! `compare`: checks a listing program against the documents' examples and
 //! against the comparison evaluator.
 //!
-//! Usage: compare LISTING-PROGRAM [SEED]
+//! Usage: compare LISTING-PROGRAM EXAMPLES-FOLDER [SEED]
 
 mod case;
 mod checks;
@@ -9,6 +9,7 @@ mod circles;
 mod condition_order;
 mod conditions;
 mod countersignature;
+mod damaged_records;
 mod document000;
 mod document01;
 mod document02;
@@ -17,6 +18,7 @@ mod families;
 mod generate;
 mod lengths;
 mod marks;
+mod mixed_in;
 mod parallel;
 mod paths;
 mod preview;
@@ -26,6 +28,7 @@ mod properties;
 mod random;
 mod report;
 mod signature_faults;
+mod stated_lengths;
 mod tables;
 mod tally;
 mod without_preview;
@@ -33,9 +36,11 @@ mod without_provisional;
 mod write;
 
 use case::Case;
+use damaged_records::Target;
 use program::Program;
 use reference::listing::listing;
 use report::Report;
+use std::path::Path;
 use std::process::ExitCode;
 use tally::Tally;
 
@@ -43,14 +48,22 @@ const SEED: u64 = 20_260_401;
 
 fn main() -> ExitCode {
     let arguments: Vec<String> = std::env::args().skip(1).collect();
-    let Some((path, seed)) = read_arguments(&arguments) else {
-        eprintln!("usage: compare LISTING-PROGRAM [SEED]");
+    let Some((path, folder, seed)) = read_arguments(&arguments) else {
+        eprintln!("usage: compare LISTING-PROGRAM EXAMPLES-FOLDER [SEED]");
         return ExitCode::from(2);
+    };
+    let targets = match damaged_records::targets(Path::new(folder)) {
+        Ok(targets) => targets,
+        Err(fault) => {
+            eprintln!("compare: {fault}");
+            return ExitCode::from(2);
+        }
     };
     println!("seed {seed}");
     let program = Program::new(path);
     let mut report = Report::default();
     check_program(&program, &all_cases(seed), seed, &mut report);
+    compare_damaged(&program, &targets, seed, &mut report);
     compare_marks(&program, &marks::journals(seed), &mut report);
     compare_evaluators(&small_cases(seed), seed, &mut report);
     match report.finish() {
@@ -59,10 +72,10 @@ fn main() -> ExitCode {
     }
 }
 
-fn read_arguments(arguments: &[String]) -> Option<(&str, u64)> {
+fn read_arguments(arguments: &[String]) -> Option<(&str, &str, u64)> {
     match arguments {
-        [path] => Some((path, SEED)),
-        [path, seed] => Some((path, seed.parse().ok()?)),
+        [path, folder] => Some((path, folder, SEED)),
+        [path, folder, seed] => Some((path, folder, seed.parse().ok()?)),
         _ => None,
     }
 }
@@ -75,6 +88,7 @@ fn all_cases(seed: u64) -> Vec<Case> {
     cases.extend(signature_faults::cases());
     cases.extend(preview::cases());
     cases.extend(preview_faults::cases());
+    cases.extend(stated_lengths::cases());
     cases.extend(document000::cases());
     cases.extend(conditions::cases());
     cases.extend(circles::cases(seed));
@@ -82,6 +96,7 @@ fn all_cases(seed: u64) -> Vec<Case> {
     cases.extend(paths::cases(seed));
     cases.extend(lengths::cases());
     cases.extend(families::cases(seed));
+    cases.extend(mixed_in::cases(seed));
     cases
 }
 
@@ -115,6 +130,13 @@ fn check_program(program: &Program, cases: &[Case], seed: u64, report: &mut Repo
     let enough = [generated.enough_open(), generated.enough_previews()];
     let all = Case::compared(enough[0].group, "all of them".to_string(), Vec::new());
     report.add(&all, &enough);
+}
+
+fn compare_damaged(program: &Program, targets: &[Target], seed: u64, report: &mut Report) {
+    let results = parallel::map(targets, |target| damaged_records::compare(program, target, seed));
+    for (target, checks) in targets.iter().zip(&results) {
+        report.add(&target.case, checks);
+    }
 }
 
 fn compare_marks(program: &Program, cases: &[Case], report: &mut Report) {
