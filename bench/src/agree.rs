@@ -25,17 +25,16 @@ const PREVIEWS: usize = 12;
 fn questions(b: &Book) -> Vec<u8> {
     let mut j = b.journal_with(&b.again, 2);
     j.extend(b.refused());
-    let issued = b.entries.iter().filter(|record| record.starts_with(b"LI"));
+    let issued = b.entries.iter().filter(|record| record.starts_with(b"li"));
     for record in issued.take(PREVIEWS) {
         if j.len() + record.len() <= JOURNAL_LIMIT {
-            j.extend(b"PV");
+            j.extend(b"pv");
             j.extend(&record[2..]);
         }
     }
     let mut ask = |c: &[u8]| {
-        if j.len() + 2 + c.len() <= JOURNAL_LIMIT {
-            j.extend(b"QU");
-            j.extend(c);
+        if j.len() + CONTENT + c.len() <= JOURNAL_LIMIT {
+            j.extend(record(b"qu", c));
         }
     };
     for p in 0..PRINS as u8 {

@@ -81,10 +81,20 @@ pub fn write_grant(g: &Grant, out: &mut Vec<u8>) {
     write_con(&g.head, out);
 }
 
+/// A record: letters, the length of its content in two bytes, high byte first,
+/// and the content.
+pub fn record(letters: &[u8; 2], content: &[u8]) -> Vec<u8> {
+    let length = u16::try_from(content.len()).expect("a content has at most 65,535 bytes");
+    [letters.as_slice(), &length.to_be_bytes(), content].concat()
+}
+
+/// Where the content of a record starts.
+pub const CONTENT: usize = 4;
+
 fn licence(letters: &[u8; 2], p: u8, g: &Grant) -> Vec<u8> {
-    let mut record = [letters.as_slice(), &[p]].concat();
-    write_grant(g, &mut record);
-    record
+    let mut content = vec![p];
+    write_grant(g, &mut content);
+    record(letters, &content)
 }
 
 /// A conclusion in a row: principal, and a slot that is fixed or a base to
@@ -202,8 +212,9 @@ impl Book {
     pub fn trust(&mut self, g: &Grant) {
         let n = self.number(g);
         self.rows[n].trusted = true;
-        let mut rec = b"TG".to_vec();
-        write_grant(g, &mut rec);
+        let mut content = vec![];
+        write_grant(g, &mut content);
+        let rec = record(b"tg", &content);
         self.journal.extend(&rec);
         self.records += 1;
         self.entries.push(rec.clone());
@@ -216,7 +227,7 @@ impl Book {
         let n = self.number(g);
         self.rows[n].issued[p as usize] = true;
         self.rows[n].waiting[p as usize] = false;
-        let rec = licence(b"LI", p, g);
+        let rec = licence(b"li", p, g);
         self.journal.extend(&rec);
         self.records += 1;
         self.entries.push(rec);
@@ -226,7 +237,7 @@ impl Book {
     pub fn wait(&mut self, p: u8, g: &Grant) {
         let n = self.number(g);
         self.rows[n].waiting[p as usize] = !self.rows[n].issued[p as usize];
-        self.journal.extend(licence(b"PL", p, g));
+        self.journal.extend(licence(b"pl", p, g));
         self.records += 1;
     }
 
@@ -236,7 +247,7 @@ impl Book {
         if self.rows[n].waiting[p as usize] {
             self.rows[n].waiting[p as usize] = false;
             self.rows[n].issued[p as usize] = true;
-            self.journal.extend(licence(b"CF", p, g));
+            self.journal.extend(licence(b"cf", p, g));
             self.records += 1;
         }
     }
@@ -257,20 +268,21 @@ impl Book {
         let pairs = self.names.iter().zip(&self.rows);
         let found = pairs.filter_map(|(name, row)| Some((name, free(row)?)));
         let (name, p) = found.min_by_key(|(name, _)| name.len()).expect("some licence is free");
-        [b"PL", [p as u8].as_slice(), name].concat()
+        record(b"pl", &[&[p as u8], name.as_slice()].concat())
     }
 
     /// The shortest record that issues a licence.
     pub fn licence(&self) -> Vec<u8> {
-        let issued = self.entries.iter().filter(|record| record.starts_with(b"LI"));
+        let issued = self.entries.iter().filter(|record| record.starts_with(b"li"));
         issued.min_by_key(|record| record.len()).expect("some licence stands").clone()
     }
 
     /// A query that numbers the grant and lets nothing stand.
     pub fn name(&mut self, g: &Grant) {
         self.number(g);
-        self.journal.extend(b"QU");
-        write_con(&Con::Issue(0, Box::new(g.clone())), &mut self.journal);
+        let mut content = vec![];
+        write_con(&Con::Issue(0, Box::new(g.clone())), &mut content);
+        self.journal.extend(record(b"qu", &content));
         self.records += 1;
     }
 
@@ -282,7 +294,7 @@ impl Book {
     /// A record as long as `again` that strikes a grant which isn't trusted.
     pub fn refused(&self) -> Vec<u8> {
         for (k, p) in (0..16).flat_map(|k| (0..16).map(move |p| (k, p))) {
-            let mut grant = self.again[2..].to_vec();
+            let mut grant = self.again[CONTENT..].to_vec();
             assert_eq!(
                 grant.len(),
                 6,
@@ -292,7 +304,7 @@ impl Book {
             grant[2..].copy_from_slice(&[0, 0, k, p]);
             let known = self.names.iter().position(|g| *g == grant);
             if !known.is_some_and(|n| self.rows[n].trusted) {
-                return [b"ST", grant.as_slice()].concat();
+                return record(b"st", &grant);
             }
         }
         panic!("{}: every short grant is trusted", self.name)

@@ -1,13 +1,13 @@
 // The hand-written book: reads a journal from standard input and prints the
 // listing of the product's scope document, each line with one write. It reads
-// a record, looks its grants up, evaluates, counts the truths and the sayings
+// a record by its stated length, looks its grants up, evaluates, counts the truths and the sayings
 // gained and lost against the marks that stood, and prints, as the book does;
 // it does not test the form of a book, which nobody lends it. Where provisional
 // licences stand it evaluates a second time, with them taken as firm, and keeps
 // the words of that; where none stand, that would give the same marks. For the
 // preview of a withdrawal it evaluates once, beside the marks that stand.
 
-use crate::book::{GRANTS, JOURNAL_LIMIT, MARKS, PRINS, X};
+use crate::book::{CONTENT, GRANTS, JOURNAL_LIMIT, MARKS, PRINS, X};
 use crate::hand::{write_and_count, write_marks, Atom, Row, Table, Words};
 use std::fs::File;
 use std::io::{Read, Write};
@@ -45,9 +45,24 @@ pub enum Answer {
     Refused(u8),
 }
 
+/// The content of a record, and how far it is read.
 struct Reader<'a> {
     bytes: &'a [u8],
     at: usize,
+}
+
+const LETTERS: [&[u8; 2]; 8] = [b"tg", b"st", b"li", b"wd", b"pv", b"pl", b"cf", b"qu"];
+
+/// The letters and the content of the first record: the letters are judged
+/// first, then whether the length is there, then whether so many bytes are.
+fn frame(bytes: &[u8]) -> Result<([u8; 2], &[u8]), u8> {
+    let (letters, rest) = bytes.split_first_chunk::<2>().ok_or(1)?;
+    if !LETTERS.contains(&letters) {
+        return Err(2);
+    }
+    let (length, rest) = rest.split_first_chunk::<2>().ok_or(1)?;
+    let content = rest.get(..u16::from_be_bytes(*length) as usize).ok_or(1)?;
+    Ok((*letters, content))
 }
 
 /// What a grant declares: principal variables and the resource variable.
@@ -55,8 +70,16 @@ struct Reader<'a> {
 struct Declared(u8, u8);
 
 impl Reader<'_> {
+    /// The content is read whole.
+    fn end(&self) -> Result<(), u8> {
+        match self.at == self.bytes.len() {
+            true => Ok(()),
+            false => Err(10),
+        }
+    }
+
     fn byte(&mut self) -> Result<u8, u8> {
-        let b = *self.bytes.get(self.at).ok_or(1)?;
+        let b = *self.bytes.get(self.at).ok_or(10)?;
         self.at += 1;
         Ok(b)
     }
@@ -185,49 +208,52 @@ impl Book {
 
     /// One record: its answer and the bytes used.
     pub fn call(&mut self, bytes: &[u8]) -> (Answer, usize) {
-        let mut r = Reader { bytes, at: 0 };
-        let answer = self.record(&mut r);
+        let (letters, content) = match frame(bytes) {
+            Ok(frame) => frame,
+            Err(n) => return (Answer::Refused(n), 0),
+        };
+        let answer = self.record(&letters, &mut Reader { bytes: content, at: 0 });
         self.known = self.table.count;
-        match answer {
-            Ok(a) => (a, r.at),
-            Err(n) => (Answer::Refused(n), if n > 5 { r.at } else { 0 }),
-        }
+        (answer.unwrap_or_else(Answer::Refused), CONTENT + content.len())
     }
 
-    fn record(&mut self, r: &mut Reader) -> Result<Answer, u8> {
-        let letters = [r.byte()?, r.byte()?];
-        match &letters {
-            b"TG" => {
-                let g = self.grant(r, 1)?;
+    fn record(&mut self, letters: &[u8; 2], r: &mut Reader) -> Result<Answer, u8> {
+        match letters {
+            b"tg" => {
+                let g = self.whole_grant(r)?;
                 self.give_numbers()?;
-                self.table.trust(g as usize, true);
+                self.table.trust(g, true);
             }
-            b"ST" => {
-                let g = self.grant(r, 1)? as usize;
+            b"st" => {
+                let g = self.whole_grant(r)?;
                 if g >= self.table.count || self.table.trusted >> g & 1 == 0 {
                     return Err(7);
                 }
                 self.table.trust(g, false);
             }
-            b"LI" | b"PL" | b"WD" | b"CF" => {
+            b"qu" => return self.query(r),
+            _ => {
                 let p = r.up_to(0x0F)? as usize;
-                let g = self.grant(r, 1)? as usize;
-                self.licence(&letters, p, g)?;
+                let g = self.whole_grant(r)?;
+                if letters == b"pv" {
+                    return self.preview(p, g);
+                }
+                self.licence(letters, p, g)?;
             }
-            b"PV" => {
-                let p = r.up_to(0x0F)? as usize;
-                let g = self.grant(r, 1)? as usize;
-                return self.preview(p, g);
-            }
-            b"QU" => return self.query(r),
-            _ => return Err(2),
         }
         Ok(Answer::Nets(self.evaluate()))
     }
 
+    /// A grant at the end of a record.
+    fn whole_grant(&mut self, r: &mut Reader) -> Result<usize, u8> {
+        let g = self.grant(r, 1)?;
+        r.end()?;
+        Ok(g as usize)
+    }
+
     /// Issues, enters as provisional, withdraws or confirms a licence.
     fn licence(&mut self, letters: &[u8; 2], p: usize, g: usize) -> Result<(), u8> {
-        if matches!(letters, b"LI" | b"PL") {
+        if matches!(letters, b"li" | b"pl") {
             self.give_numbers()?;
         } else if g >= self.table.count {
             return Err(7);
@@ -235,14 +261,14 @@ impl Book {
         let firm = self.table.issued[p] >> g & 1 == 1;
         let waits = self.waiting[p] >> g & 1 == 1;
         match letters {
-            b"WD" if !firm && !waits => return Err(7),
-            b"CF" if !waits => return Err(7),
-            b"PL" if firm => return Ok(()),
+            b"wd" if !firm && !waits => return Err(7),
+            b"cf" if !waits => return Err(7),
+            b"pl" if firm => return Ok(()),
             _ => {}
         }
-        let waits = letters == b"PL";
+        let waits = letters == b"pl";
         self.waiting[p] = self.waiting[p] & !(1 << g) | (waits as u64) << g;
-        self.table.issue(p, g, matches!(letters, b"LI" | b"CF"));
+        self.table.issue(p, g, matches!(letters, b"li" | b"cf"));
         Ok(())
     }
 
@@ -267,6 +293,7 @@ impl Book {
 
     fn query(&mut self, r: &mut Reader) -> Result<Answer, u8> {
         let a = self.conclusion(r, Declared(0, 0), 0)?;
+        r.end()?;
         self.give_numbers()?;
         let (prin, kind, item) = (a.prin as usize, a.kind as usize, a.item as usize);
         let c = 144 * prin + [0, 16, 80, 112][kind] + item;
@@ -405,9 +432,9 @@ pub fn list() {
                     line.number(net.unsigned_abs());
                 }
             }
-            Answer::Permitted => line.add(b"QU permitted"),
-            Answer::NotPermitted => line.add(b"QU not permitted"),
-            Answer::Open => line.add(b"QU open"),
+            Answer::Permitted => line.add(b"qu permitted"),
+            Answer::NotPermitted => line.add(b"qu not permitted"),
+            Answer::Open => line.add(b"qu open"),
             Answer::Refused(n) => {
                 line.add(b"refused ");
                 line.number(n as u32);

@@ -26,7 +26,7 @@ const ROUNDS: usize = 8;
 const DRAWN: u64 = 100;
 /// Records run on a book so long for one measurement, in seconds.
 const STRETCH: f64 = 0.04;
-const QUERY: &[u8] = b"QU\0\x02\x02";
+const QUERY: &[u8] = b"qu\0\x03\0\x02\x02";
 
 pub struct Tools {
     pub listing: PathBuf,

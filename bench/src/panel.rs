@@ -1,6 +1,7 @@
 // What one panel costs beside one query on the same book, both through the
 // static library of the crate panel_boundary, in this process.
 
+use crate::book::record;
 use crate::measure;
 use std::hint::black_box;
 
@@ -19,13 +20,13 @@ const REFUSED: u8 = 16;
 /// A book of 64 rows that no evaluation made: 16 queries, each of which
 /// numbers a grant inside a grant inside a grant inside a grant.
 fn book() -> Vec<u8> {
-    let record = |k: u8| {
-        let mut bytes = b"QU\x01\0\0".to_vec();
-        (0..3).for_each(|_| bytes.extend([0, 0, 0, 1, 0, 0]));
-        bytes.extend([0, 0, 0, 0, k, 0]);
-        bytes
+    let query = |k: u8| {
+        let mut content = vec![1, 0, 0];
+        (0..3).for_each(|_| content.extend([0, 0, 0, 1, 0, 0]));
+        content.extend([0, 0, 0, 0, k, 0]);
+        record(b"qu", &content)
     };
-    (0..16).flat_map(record).collect()
+    (0..16).flat_map(query).collect()
 }
 
 fn once(journal: &[u8], principal: u8) -> f64 {
@@ -38,12 +39,12 @@ fn once(journal: &[u8], principal: u8) -> f64 {
     (measure::now() - start) / REPS as f64
 }
 
-/// Seconds for a panel and for a query. A query is one more QU behind the
+/// Seconds for a panel and for a query. A query is one more qu behind the
 /// book. A panel is its words, which is what it takes beyond a refused one,
 /// and the test of the form, for which a whole query stands.
 pub fn measure() -> (f64, f64) {
     let book = book();
-    let more = [book.clone(), b"QU\x02\x02\x02".repeat(QUERIES)].concat();
+    let more = [book.clone(), record(b"qu", &[2, 2, 2]).repeat(QUERIES)].concat();
     let found = measure::best(
         ROUNDS,
         &mut [

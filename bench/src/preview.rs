@@ -17,12 +17,12 @@ pub struct Found {
     by_hand: Costs,
 }
 
-/// The costs by one program, of the shortest licence that stands. PV may follow
-/// itself. WD may not: WD and LI in turn are measured against LI twice.
+/// The costs by one program, of the shortest licence that stands. pv may follow
+/// itself. wd may not: wd and li in turn are measured against li twice.
 fn costs(t: &Tools, b: &Book, program: &Path, args: &[&str]) -> Costs {
     let issued = b.licence();
     let named = |letters: &[u8; 2]| [letters.as_slice(), &issued[2..]].concat();
-    let (preview, in_turn) = (named(b"PV"), [named(b"WD"), issued.clone()].concat());
+    let (preview, in_turn) = (named(b"pv"), [named(b"wd"), issued.clone()].concat());
     let twice = issued.repeat(2);
     let previews = times(t, b, &preview, program, args);
     let turns = times(t, b, &in_turn, program, args);
@@ -53,7 +53,7 @@ pub fn measure(t: &Tools, b: &Book) -> Found {
 
 pub fn print(found: &[Found]) {
     println!("the preview of a withdrawal, beside the withdrawal");
-    println!("{:<43} | {:^25} | {:^25} | {:>7}", "", "PV", "WD", "PV/WD");
+    println!("{:<43} | {:^25} | {:^25} | {:>7}", "", "pv", "wd", "pv/wd");
     let both = format!("{:>8} {:>8} {:>7}", "ours", "by hand", "ratio");
     println!("{:<43} | {} | {} | {:>7}", "book", both, both, "ours");
     for Found { name, ours, by_hand } in found {

@@ -1,6 +1,6 @@
 // What provisional licences cost: a record that changes a book, on the book
-// and on the same book with one provisional licence more, and the records PL
-// and CF.
+// and on the same book with one provisional licence more, and the records pl
+// and cf.
 
 use crate::book::Book;
 use crate::measure::{self, best};
@@ -13,13 +13,13 @@ pub const WAITING_GOAL: f64 = 2.0;
 
 /// Seconds for one record, by one of the two programs.
 pub struct Costs {
-    /// TG of a standing grant, where no provisional licence stands
+    /// tg of a standing grant, where no provisional licence stands
     without: f64,
     /// the same where one stands
     with: f64,
-    /// PL of the provisional licence that stands
+    /// pl of the provisional licence that stands
     enter: f64,
-    /// CF of the one that stands
+    /// cf of the one that stands
     confirm: f64,
 }
 
@@ -47,15 +47,15 @@ fn run(t: &Tools, name: &str, b: &Book, records: &[u8], times: usize) -> Run {
     Run { at, times }
 }
 
-/// The costs by one program. PL may follow itself. CF may not: PL, CF and WD in
-/// turn are measured against PL and WD in turn.
+/// The costs by one program. pl may follow itself. cf may not: pl, cf and wd in
+/// turn are measured against pl and wd in turn.
 fn costs(t: &Tools, b: &Book, program: &Path, args: &[&str]) -> Costs {
     let awaited = b.awaited();
     let named = |letters: &[u8; 2]| [letters.as_slice(), &awaited[2..]].concat();
     let mut with = b.clone();
     with.journal.extend(&awaited);
-    let in_turn = [awaited.clone(), named(b"CF"), named(b"WD")].concat();
-    let without_cf = [awaited.clone(), named(b"WD")].concat();
+    let in_turn = [awaited.clone(), named(b"cf"), named(b"wd")].concat();
+    let without_cf = [awaited.clone(), named(b"wd")].concat();
     let often = |b: &Book, records: &[u8]| times(t, b, records, program, args);
     let turns = often(b, &in_turn);
     let runs = [
@@ -65,7 +65,7 @@ fn costs(t: &Tools, b: &Book, program: &Path, args: &[&str]) -> Costs {
         run(t, "with again", &with, &b.again, often(&with, &b.again)),
         run(t, "entered again", &with, &awaited, often(&with, &awaited)),
         run(t, "in turn", b, &in_turn, turns),
-        run(t, "in turn without CF", b, &without_cf, turns),
+        run(t, "in turn without cf", b, &without_cf, turns),
     ];
     let mut timed: Vec<_> =
         runs.iter().map(|run| || measure::program(program, args, &run.at)).collect();
@@ -90,10 +90,10 @@ pub fn measure(t: &Tools, b: &Book) -> Found {
 }
 
 pub fn print(found: &[Found]) {
-    println!("a record that changes a book without a provisional licence and with one; PL and CF of that one");
+    println!("a record that changes a book without a provisional licence and with one; pl and cf of that one");
     println!(
         "{:<43} | {:^25} | {:^25} | {:^25} | {:^25}",
-        "", "ours", "by hand", "PL", "CF"
+        "", "ours", "by hand", "pl", "cf"
     );
     let pair = format!("{:>8} {:>8} {:>7}", "without", "with", "ratio");
     let both = format!("{:>8} {:>8} {:>7}", "ours", "by hand", "ratio");

@@ -30,12 +30,12 @@ fn flip(b: &Book) -> (Vec<u8>, i32) {
     let mut hand = hand_book::Book::new();
     hand.take(&b.journal);
     let mut best = (vec![], 0);
-    for entry in b.entries.iter().filter(|e| e.len() <= 16) {
+    for entry in b.entries.iter().filter(|e| e.len() <= CONTENT + 14) {
         let mut removal = entry.clone();
-        removal[..2].copy_from_slice(if entry.starts_with(b"TG") {
-            b"ST"
+        removal[..2].copy_from_slice(if entry.starts_with(b"tg") {
+            b"st"
         } else {
-            b"WD"
+            b"wd"
         });
         let (Answer::Nets([truths, sayings]), _) = hand.call(&removal) else {
             continue;
@@ -51,18 +51,18 @@ fn flip(b: &Book) -> (Vec<u8>, i32) {
 
 fn fills(b: &Book) -> Vec<(String, Vec<u8>)> {
     let (flip, marks) = flip(b);
-    let preview = [b"PV", &b.licence()[2..]].concat();
+    let preview = [b"pv", &b.licence()[2..]].concat();
     let mut fills = vec![
-        ("TG of a standing grant".to_string(), b.again.clone()),
-        ("PV of a standing licence".to_string(), preview),
-        ("QU".to_string(), b"QU\0\x02\x02".to_vec()),
-        ("ST refused with 7".to_string(), b.refused()),
+        ("tg of a standing grant".to_string(), b.again.clone()),
+        ("pv of a standing licence".to_string(), preview),
+        ("qu".to_string(), crate::QUERY.to_vec()),
+        ("st refused with 7".to_string(), b.refused()),
     ];
     if !flip.is_empty() {
-        let pair = if flip.starts_with(b"ST") {
-            "ST and TG"
+        let pair = if flip.starts_with(b"st") {
+            "st and tg"
         } else {
-            "WD and LI"
+            "wd and li"
         };
         fills.push((format!("{} in turn, {} marks", pair, marks), flip));
     }
