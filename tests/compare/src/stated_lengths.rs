@@ -307,9 +307,9 @@ fn long_contents() -> Vec<Case> {
         when(&conditions, &property(5, 5))
     };
     let full = |inner: &Bytes| when(&vec![said(0, &issue(6, inner)); 4], &issue(6, inner));
-    let deepest = full(&full(&full(&plain(&property(2, 2)))));
+    let deepest = full(&full(&full(&when(&vec![said(1, &property(1, 1)); 4], &property(2, 2)))));
     let (of_254, of_256) = (last(&[26, 26]), last(&[22, 22, 10]));
-    assert_eq!([of_254.len(), of_256.len(), deepest.len()], [254, 256, 1_432]);
+    assert_eq!([of_254.len(), of_256.len(), deepest.len()], [254, 256, 3_432]);
     vec![
         long_content(&of_254, &["refused 1"]),
         long_content(&of_256, &["refused 10", "refused 2"]),
@@ -321,6 +321,7 @@ fn long_contents() -> Vec<Case> {
 /// bytes of its length exchanged, and then come these answers.
 fn long_content(grant: &[u8], turned_answers: &[&str]) -> Case {
     let (entered, issued) = (trust(grant), licence(7, grant));
+    let asked = query(&issue(7, grant));
     let mut turned = entered.clone();
     turned.swap(2, 3);
     let pairs = [
@@ -331,6 +332,8 @@ fn long_content(grant: &[u8], turned_answers: &[&str]) -> Case {
         (longer(&issued), "refused 10"),
         (shorter(&issued), "refused 10"),
         (preview(7, grant), "pv +0 +0"),
+        (longer(&asked), "refused 10"),
+        (asked, "qu not permitted"),
         (strike(grant), "st +0 +0"),
         (withdraw(7, grant), "wd +0 +0"),
     ];
