@@ -2,7 +2,7 @@
 //! evaluator; where a formula gives the answers, they are written out.
 
 use crate::case::Case;
-use crate::generate::{damage, journal, Generator, Style};
+use crate::generate::{damage, damage_content, journal, Generator, Style};
 use crate::random::Random;
 use crate::write::*;
 
@@ -90,6 +90,7 @@ fn large_journals(seed: u64) -> Vec<Case> {
     (0..24).map(&mut make).collect()
 }
 
+/// In half of them contents are damaged, and lengths fit what is left.
 fn damaged_journals(seed: u64) -> Vec<Case> {
     const GROUP: &str = "journals with bytes changed, inserted, removed";
     let mut random = Random::new(seed, GROUP);
@@ -97,8 +98,9 @@ fn damaged_journals(seed: u64) -> Vec<Case> {
         let members = random.between(1, 4);
         let records = random.between(1, 20);
         let mut bytes = journal(&mut random, members, records);
+        let damages = *random.choose(&[damage as fn(&mut Random, &mut Bytes), damage_content]);
         for _ in 0..random.between(1, 3) {
-            damage(&mut random, &mut bytes);
+            damages(&mut random, &mut bytes);
         }
         Case::compared(GROUP, i.to_string(), bytes)
     };

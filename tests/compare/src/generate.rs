@@ -2,6 +2,7 @@
 
 use crate::random::Random;
 use crate::write::*;
+use reference::reader::frames;
 
 const LAST_DEPTH: u8 = 4;
 /// How a grant without variables and conditions opens.
@@ -418,6 +419,17 @@ pub fn damage(random: &mut Random, journal: &mut Bytes) {
         }
         _ => journal.insert(place, byte),
     }
+}
+
+/// The same in the content of a record, whose length is that of what is left.
+pub fn damage_content(random: &mut Random, journal: &mut Bytes) {
+    let records: Vec<(usize, usize)> =
+        frames(journal).map(|(start, frame)| (start, start + frame.length())).collect();
+    let &(start, end) = random.choose(&records);
+    let mut content = journal[start + CONTENT..end].to_vec();
+    damage(random, &mut content);
+    let anew = record(&[journal[start], journal[start + 1]], &content);
+    journal.splice(start..end, anew);
 }
 
 /// A record of any kind over one of the grants.
