@@ -38,7 +38,8 @@ pub fn targets(folder: &Path) -> Result<Vec<Target>, String> {
     let mut targets = Vec::new();
     for path in paths {
         let text = std::fs::read_to_string(&path).map_err(told)?;
-        targets.extend(records(&path.display().to_string(), &journal(&text)));
+        let name = path.file_name().unwrap_or_default().to_string_lossy();
+        targets.extend(records(&name, &journal(&text)));
     }
     match targets.is_empty() {
         true => Err(format!("{}: no journals", folder.display())),
