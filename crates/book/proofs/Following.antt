@@ -20,12 +20,14 @@ use Rattle.rows.proofs.Shown.{form-shown, out-length}
 use Rattle.rows.proofs.Appended.{Ext, ext-refl, ext-length, number-ext, concl-more}
 use Rattle.ranges.specs.Bytes.{Outcome, got, refused}
 use Rattle.frames.specs.Frames.{extent}
-use Rattle.reader.specs.Records.{Record, enter, remove, confirm, preview, query, readCanonical}
-use Rattle.reader.specs.Requests.{fits, foundOf, numberedBy, Reads}
-use Rattle.reader.specs.declared.records.Request.the-variants.{Enter, Remove, Confirm, Preview, Query}
-use Rattle.reader.specs.declared.records.Found.{Found}
-use Rattle.reader.specs.declared.records.Found.the-variants as found
-use Rattle.reader.specs.declared.records.Reading.{Reading}
+use Rattle.contents.specs.Records.{Record, enter, remove, confirm, preview, query}
+use Rattle.reader.specs.Records.{readCanonical}
+use Rattle.contents.specs.Requests.{fits, foundOf, numberedBy}
+use Rattle.reader.specs.Requests.{Reads}
+use Rattle.contents.specs.declared.Request.the-variants.{Enter, Remove, Confirm, Preview, Query}
+use Rattle.contents.specs.declared.Found.{Found}
+use Rattle.contents.specs.declared.Found.the-variants as found
+use Rattle.contents.specs.declared.Reading.{Reading}
 use Rattle.exact.specs.Writing.{AllowedRecord}
 use Rattle.canon.specs.Canon.{Canonical, CanonicalConcl}
 use Rattle.canon.proofs.Numbers.{AllInForm, rows-all, all-rows, number-in-form, concl-in-form}

@@ -29,10 +29,11 @@ use Rattle.rows.proofs.Place.{has-in, has-lt}
 use Rattle.rows.proofs.Shown.{length-more}
 use Rattle.ranges.specs.Bytes.{Outcome, got, refused}
 use Rattle.frames.specs.Frames.{extent}
-use Rattle.reader.specs.Records.{Record, enter, remove, confirm, preview, query, readCanonical}
-use Rattle.reader.specs.Requests.{fits, foundOf}
-use Rattle.reader.specs.declared.records.Request.the-variants.{Enter, Remove, Confirm, Preview, Query}
-use Rattle.reader.specs.declared.records.Found.the-variants as found
+use Rattle.contents.specs.Records.{Record, enter, remove, confirm, preview, query}
+use Rattle.reader.specs.Records.{readCanonical}
+use Rattle.contents.specs.Requests.{fits, foundOf}
+use Rattle.contents.specs.declared.Request.the-variants.{Enter, Remove, Confirm, Preview, Query}
+use Rattle.contents.specs.declared.Found.the-variants as found
 use Rattle.exact.specs.Writing.{AllowedRecord}
 use Rattle.exact.proofs.CanonicalRecords.{canonical-exact}
 use Rattle.rules.specs.Rules.{RowsForm}

@@ -6,10 +6,11 @@ use native.Mathlib.Omega.{arith}
 use mathlib.Core.Logic.{inl, inr}
 use Prim.Native.Nat.{ℕ}
 use Rattle.rows.specs.declared.Table.{Table}
-use Rattle.reader.specs.Requests.{numberFound, usedFound, Reads}
-use Rattle.reader.specs.declared.records.Found.{Found}
-use Rattle.reader.specs.declared.records.Found.the-variants as found
-use Rattle.reader.specs.declared.records.Reading.{Reading}
+use Rattle.contents.specs.Requests.{numberFound, usedFound}
+use Rattle.reader.specs.Requests.{Reads}
+use Rattle.contents.specs.declared.Found.{Found}
+use Rattle.contents.specs.declared.Found.the-variants as found
+use Rattle.contents.specs.declared.Reading.{Reading}
 use Rattle.machine.specs.Machine.{step}
 use Rattle.bookform.specs.declared.Book.{Book}
 use Rattle.answer.specs.declared.Answered.{Answered}

@@ -16,8 +16,9 @@ use Rattle.rows.specs.Numbering.{has, number}
 use Rattle.rows.proofs.Known.{numbered-known}
 use Rattle.ranges.specs.Bytes.{got}
 use Rattle.frames.specs.Frames.{extent}
-use Rattle.reader.specs.Records.{enter, readCanonical}
-use Rattle.reader.specs.Requests.{fits}
+use Rattle.contents.specs.Records.{enter}
+use Rattle.reader.specs.Records.{readCanonical}
+use Rattle.contents.specs.Requests.{fits}
 use Rattle.machine.specs.Machine.{State, Verdict, Step, changes, change, refuse, act, acted, step, feed, entered, stands}
 use Rattle.machine.proofs.Apart.{Apart, entered-firm, entered-present}
 use Rattle.machine.proofs.Flags.{flags-apart}

@@ -18,8 +18,9 @@ use Rattle.ranges.specs.Bytes.{Outcome, got, refused}
 use Rattle.canon.specs.Canon.{canon, same}
 use Rattle.canon.proofs.Sets.{same-canon}
 use Rattle.frames.specs.Frames.{extent}
-use Rattle.reader.specs.Records.{Record, enter, remove, confirm, preview, query, readRecord, readCanonical, canonRecord}
-use Rattle.reader.specs.Requests.{fits}
+use Rattle.contents.specs.Records.{Record, enter, remove, confirm, preview, query, canonRecord}
+use Rattle.reader.specs.Records.{readRecord, readCanonical}
+use Rattle.contents.specs.Requests.{fits}
 use Rattle.exact.proofs.CanonicalRecords.{canonical-of}
 use Rattle.bookform.specs.declared.Book.{Book}
 use Rattle.answer.specs.declared.Answer.{Answer}

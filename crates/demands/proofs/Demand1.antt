@@ -16,8 +16,9 @@ use Rattle.rows.specs.Numbering.{number, numberConcl}
 use Rattle.rows.proofs.Bytes.{no-true}
 use Rattle.ranges.specs.Bytes.{Outcome, got, refused}
 use Rattle.frames.specs.Frames.{extent}
-use Rattle.reader.specs.Records.{Record, enter, remove, confirm, preview, query, readCanonical}
-use Rattle.reader.specs.Requests.{fits}
+use Rattle.contents.specs.Records.{Record, enter, remove, confirm, preview, query}
+use Rattle.reader.specs.Records.{readCanonical}
+use Rattle.contents.specs.Requests.{fits}
 use Rattle.bookform.specs.declared.Book.{Book}
 use Rattle.marks.specs.declared.Counts.{Counts}
 use Rattle.answer.specs.declared.Answer.{Answer}

@@ -8,7 +8,8 @@ use lib.ListN.{length, replicate}
 use native.Mathlib.Decide.{ℕ-discrete}
 use Rattle.sorts.specs.Numbers.{allMarks}
 use Rattle.ranges.specs.Bytes.{Outcome, got, refused}
-use Rattle.reader.specs.Records.{Record, enter, remove, confirm, preview, query, readCanonical}
+use Rattle.contents.specs.Records.{Record, enter, remove, confirm, preview, query}
+use Rattle.reader.specs.Records.{readCanonical}
 use Rattle.rules.specs.Standing.{In}
 use Rattle.machine.specs.Machine.{State, Step, start, step, feed}
 use Rattle.machine.specs.Closed.{Stands}

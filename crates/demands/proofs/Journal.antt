@@ -11,7 +11,8 @@ use Rattle.ranges.specs.Bytes.{byteAt, upto, principal, pack, tag, header}
 use Rattle.grants.specs.Grants.{readProperty, readPacked, readIssue, readConcl, readConds, readWith, readGrant}
 use Rattle.canon.specs.Canon.{canon}
 use Rattle.frames.specs.Frames.{kindWith, readMark, frame, extent}
-use Rattle.reader.specs.Records.{readEntry, readLicence, readQuery, readContent, readWhole, readRecord, readCanonical}
+use Rattle.contents.specs.Records.{readEntry, readLicence, readQuery, readContent}
+use Rattle.reader.specs.Records.{readWhole, readRecord, readCanonical}
 use Rattle.bookform.specs.declared.Book.{Book}
 use Rattle.machine.specs.Machine.{State, Verdict, changes, asks, refuses, Entry, start, member, insert, delete, act, step, feed}
 use Rattle.book.specs.Shows.{Shows}

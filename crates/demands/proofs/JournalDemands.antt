@@ -20,7 +20,8 @@ use Rattle.ranges.specs.Bytes.{Outcome, got, byteAt, upto, principal, pack, tag
 use Rattle.grants.specs.Grants.{readProperty, readPacked, readIssue, readConcl, readConds, readWith, readGrant}
 use Rattle.canon.specs.Canon.{canon}
 use Rattle.frames.specs.Frames.{kindWith, readMark, frame, extent}
-use Rattle.reader.specs.Records.{Record, enter, remove, readEntry, readLicence, readQuery, readContent, readWhole, readRecord, readCanonical}
+use Rattle.contents.specs.Records.{Record, enter, remove, readEntry, readLicence, readQuery, readContent}
+use Rattle.reader.specs.Records.{readWhole, readRecord, readCanonical}
 use Rattle.rules.specs.Rules.{resUnder, conclUnder, granted, issueMark, Values}
 use Rattle.rules.specs.Standing.{In, Bits}
 use Rattle.rules.proofs.Saturation.{same-marks, zeroes-none}

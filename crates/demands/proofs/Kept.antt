@@ -13,7 +13,8 @@ use Rattle.rows.specs.Form.{rowsOut}
 use Rattle.rows.proofs.Place.{has-lt}
 use Rattle.ranges.specs.Bytes.{Outcome, got, refused}
 use Rattle.frames.specs.Frames.{extent}
-use Rattle.reader.specs.Records.{Record, enter, remove, confirm, preview, query, readCanonical}
+use Rattle.contents.specs.Records.{Record, enter, remove, confirm, preview, query}
+use Rattle.reader.specs.Records.{readCanonical}
 use Rattle.rows.proofs.Appended.{Ext, ext-refl, ext-trans}
 use Rattle.bookform.specs.declared.Book.{Book}
 use Rattle.machine.specs.Machine.{State, start, refuse, acted, step, feed}

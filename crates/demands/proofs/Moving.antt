@@ -15,8 +15,9 @@ use Rattle.rows.specs.Numbering.{number, numberConcl}
 use Rattle.rows.proofs.Appended.{Ext, ext-refl, number-ext, concl-more}
 use Rattle.ranges.specs.Bytes.{Outcome, got, refused}
 use Rattle.frames.specs.Frames.{extent}
-use Rattle.reader.specs.Records.{Record, enter, remove, confirm, preview, query, readCanonical}
-use Rattle.reader.specs.Requests.{fits}
+use Rattle.contents.specs.Records.{Record, enter, remove, confirm, preview, query}
+use Rattle.reader.specs.Records.{readCanonical}
+use Rattle.contents.specs.Requests.{fits}
 use Rattle.machine.specs.Machine.{State, Entry, Verdict, Step, changes, previews, asks, refuses, refuse, act, acted, step, feed, member, insert, delete, entry, entered, there, removed, stands}
 use Rattle.machine.proofs.Apart.{kinds-apart, provisional-issued, delete-member}
 use Rattle.machine.proofs.Sets.{insert-same, insert-other, delete-other, entry-dec}

@@ -17,12 +17,13 @@ use Rattle.rows.specs.Numbering.{place, has}
 use Rattle.rows.specs.Form.{rowsOut}
 use Rattle.ranges.specs.Bytes.{Outcome, got, refused}
 use Rattle.frames.specs.Frames.{extent}
-use Rattle.reader.specs.Records.{Record, preview, readCanonical}
-use Rattle.reader.specs.Requests.{foundOf}
+use Rattle.contents.specs.Records.{Record, preview}
+use Rattle.reader.specs.Records.{readCanonical}
+use Rattle.contents.specs.Requests.{foundOf}
 use Rattle.reader.specs.inner.OneRecord.{numRecord}
-use Rattle.reader.specs.declared.records.Request.the-variants.{Remove, Preview}
-use Rattle.reader.specs.declared.records.Found.{Found}
-use Rattle.reader.specs.declared.records.Found.the-variants as found
+use Rattle.contents.specs.declared.Request.the-variants.{Remove, Preview}
+use Rattle.contents.specs.declared.Found.{Found}
+use Rattle.contents.specs.declared.Found.the-variants as found
 use Rattle.reader.proofs.Record.{reads-within}
 use Rattle.exact.proofs.Content.{withdrawn, same-extent, same-canonical, Previewing, licence, fault, preview-only}
 use Rattle.flags.specs.Changes.{thereFlags}

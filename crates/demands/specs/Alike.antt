@@ -3,7 +3,8 @@ use Prim.Native.Nat.{ℕ}
 use mathlib.Core.Path.{_≡_}
 use mathlib.Core.List.{List, [], _∷_}
 use Rattle.ranges.specs.Bytes.{Outcome, got, refused}
-use Rattle.reader.specs.Records.{Record, readCanonical}
+use Rattle.contents.specs.Records.{Record}
+use Rattle.reader.specs.Records.{readCanonical}
 use Rattle.answer.specs.declared.Answer.{Answer}
 use Rattle.book.specs.Chains.{Call, Fed}
 

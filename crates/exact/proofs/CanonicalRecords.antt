@@ -6,7 +6,8 @@ use native.Mathlib.Omega.{arith}
 use lib.ListN.{length, length-append}
 use Rattle.sorts.specs.declared.Status.the-variants.{Trusted, Issued, Provisional}
 use Rattle.ranges.specs.Bytes.{Outcome, got, refused, andThen}
-use Rattle.reader.specs.Records.{Record, enter, remove, confirm, preview, query, readRecord, canonRecord, readCanonical}
+use Rattle.contents.specs.Records.{Record, enter, remove, confirm, preview, query, canonRecord}
+use Rattle.reader.specs.Records.{readRecord, readCanonical}
 use Rattle.exact.proofs.Framing.{in-frame-length}
 use Rattle.exact.specs.Writing.{kindOf, writtenStatus, contentOf, writtenRecord, AllowedRecord}
 use Rattle.exact.proofs.Exact.{record-read, record-exact}

@@ -15,7 +15,8 @@ use Rattle.ranges.specs.Bytes.{Outcome, got, refused, andThen, upto}
 use Rattle.canon.specs.Canon.{canon}
 use Rattle.grants.specs.Grants.{readGrant}
 use Rattle.frames.specs.Frames.{lettersOf, stated, Frame, holds, ends, sized, frame, frameLength, extent}
-use Rattle.reader.specs.Records.{Record, enter, remove, confirm, preview, query, readEntry, readLicence, readContent, fitted, readWhole, framed, readRecord, canonRecord, readCanonical}
+use Rattle.contents.specs.Records.{Record, enter, remove, confirm, preview, query, readEntry, readLicence, readContent, canonRecord}
+use Rattle.reader.specs.Records.{fitted, readWhole, framed, readRecord, readCanonical}
 use Rattle.exact.proofs.Framing.{letters-frame}
 
 -- What a preview asks, as the withdrawal of the same licence.

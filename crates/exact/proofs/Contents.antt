@@ -16,7 +16,8 @@ use Rattle.frames.specs.declared.Kind.the-variants.{Tg, St, Li, Wd, Qu, Pl, Cf,
 use Rattle.ranges.specs.Bytes.{got}
 use Rattle.grants.specs.Grants.{readGrant}
 use Rattle.exact.specs.Writing.{kindOf, contentOf, AllowedRecord}
-use Rattle.reader.specs.Records.{Record, enter, remove, confirm, preview, query, readEntry, readLicence, nothingDeclared, readQuery, readContent, readWhole}
+use Rattle.contents.specs.Records.{Record, enter, remove, confirm, preview, query, readEntry, readLicence, nothingDeclared, readQuery, readContent}
+use Rattle.reader.specs.Records.{readWhole}
 use Rattle.grants.proofs.Spelled.{Spelled, nothing, join, part, between}
 use Rattle.grants.proofs.Gives.{Gives, done, after}
 use Rattle.grants.proofs.Found.{upto-found, concl-found, grant-found}

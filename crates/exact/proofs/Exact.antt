@@ -13,7 +13,8 @@ use Rattle.sorts.specs.declared.Status.the-variants.{Trusted, Issued, Provision
 use Rattle.sorts.specs.Numbers.{depths}
 use Rattle.ranges.specs.Bytes.{Outcome, got, refused, andThen}
 use Rattle.frames.specs.Frames.{lettersOf, stated, Frame, holds, ends, frame, extent}
-use Rattle.reader.specs.Records.{Record, enter, remove, confirm, preview, query, readContent, fitted, readWhole, framed, readRecord}
+use Rattle.contents.specs.Records.{Record, enter, remove, confirm, preview, query, readContent}
+use Rattle.reader.specs.Records.{fitted, readWhole, framed, readRecord}
 use Rattle.canon.proofs.Size as size
 use Rattle.exact.specs.Writing.{kindOf, contentOf, inFrame, writtenRecord, AllowedRecord, Bytes}
 use Rattle.exact.proofs.Framing.{Opens, frame-opens, in-frame, in-frame-length, extent-holds}

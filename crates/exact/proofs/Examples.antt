@@ -11,7 +11,8 @@ use Rattle.rows.specs.Allowed.{Allowed}
 use Rattle.ranges.specs.Bytes.{Outcome, got, refused, byteAt, upto, principal, pack, tag, header}
 use Rattle.grants.specs.Grants.{readProperty, readPacked, readIssue, readConcl, readConds, readWith, readGrant}
 use Rattle.frames.specs.Frames.{kindWith, readMark, frame}
-use Rattle.reader.specs.Records.{Record, enter, confirm, query, readWhole, readEntry, readLicence, readQuery, readContent, readRecord}
+use Rattle.contents.specs.Records.{Record, enter, confirm, query, readEntry, readLicence, readQuery, readContent}
+use Rattle.reader.specs.Records.{readWhole, readRecord}
 use Rattle.exact.specs.Writing.{inFrame, writtenRecord, AllowedRecord}
 use Rattle.exact.proofs.Exact.{record-read}
 

@@ -20,7 +20,8 @@ use Rattle.frames.specs.declared.Kind.the-variants.{Tg, St, Li, Wd, Qu, Pl, Cf,
 use Rattle.ranges.specs.Bytes.{Outcome, got, refused, andThen, byteAt, upto, declared, principal, pack, tag, Header, header}
 use Rattle.grants.specs.Grants.{readProperty, readPacked, readIssue, readConcl, readConds, readWith, readGrant}
 use Rattle.frames.specs.Frames.{lettersOf, kinds, kindWith, stated, Frame, holds, ends, sized, marked, frame, frameLength, extent}
-use Rattle.reader.specs.Records.{Record, enter, remove, confirm, preview, readEntry, readLicence, nothingDeclared, readQuery, readContent, fitted, readWhole, framed, readRecord}
+use Rattle.contents.specs.Records.{Record, enter, remove, confirm, preview, readEntry, readLicence, nothingDeclared, readQuery, readContent}
+use Rattle.reader.specs.Records.{fitted, readWhole, framed, readRecord}
 use Rattle.exact.specs.Writing.{kindOf, contentOf, AllowedRecord, NeedsFewer, NeedsMore}
 use Rattle.frames.proofs.Letters.{kind-letters, kind-none}
 use Rattle.exact.proofs.Framing.{frame-none, frame-one, after-letters, opens-frame, frame-apart, ends-numbers, extent-holds, extent-ends}

@@ -7,7 +7,8 @@ use native.Mathlib.Omega.{arith}
 use Rattle.frames.specs.declared.Kind.{Kind}
 use Rattle.ranges.specs.Bytes.{Outcome, got, refused, andThen}
 use Rattle.frames.specs.Frames.{readMark, marked, frame, extent}
-use Rattle.reader.specs.Records.{Record, framed, readRecord, canonRecord, readCanonical}
+use Rattle.contents.specs.Records.{Record, canonRecord}
+use Rattle.reader.specs.Records.{framed, readRecord, readCanonical}
 use Rattle.bookform.specs.declared.Book.{Book}
 use Rattle.answer.specs.declared.Answered.{Answered}
 use Rattle.answer.specs.declared.Answer.{Answer}

@@ -10,7 +10,8 @@ use lib.Dec.{eqb}
 use Rattle.ranges.specs.Bytes.{Outcome, got, refused}
 use Rattle.sorts.specs.Numbers.{allMarks}
 use Rattle.frames.specs.Frames.{extent}
-use Rattle.reader.specs.Records.{Record, readRecord, readCanonical}
+use Rattle.contents.specs.Records.{Record}
+use Rattle.reader.specs.Records.{readRecord, readCanonical}
 use Rattle.exact.proofs.Exact.{record-found}
 use Rattle.exact.proofs.CanonicalRecords.{canonical-got, canonical-refused}
 use Rattle.exact.proofs.Faults.{Turned, at-frame, in-content, fault-at}

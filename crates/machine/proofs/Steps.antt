@@ -11,8 +11,9 @@ use Rattle.rows.specs.Written.{Grant}
 use Rattle.rows.specs.Numbering.{number, numberConcl}
 use Rattle.ranges.specs.Bytes.{Outcome, got, refused, andThen}
 use Rattle.frames.specs.Frames.{Frame, frame, frameLength, extent}
-use Rattle.reader.specs.Records.{Record, enter, remove, confirm, preview, query, framed, readRecord, canonRecord, readCanonical}
-use Rattle.reader.specs.Requests.{fits}
+use Rattle.contents.specs.Records.{Record, enter, remove, confirm, preview, query, canonRecord}
+use Rattle.reader.specs.Records.{framed, readRecord, readCanonical}
+use Rattle.contents.specs.Requests.{fits}
 use Rattle.exact.proofs.Exact.{record-extent}
 use Rattle.exact.proofs.CanonicalRecords.{canonical-got}
 use Rattle.machine.specs.Machine.{State, Step, Verdict, changes, previews, asks, refuses, refuse, act, acted, step, stands, there}

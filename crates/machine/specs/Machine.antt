@@ -13,8 +13,9 @@ use Rattle.rows.specs.Numbering.{number, numberConcl}
 use Rattle.rows.specs.Form.{conclOf}
 use Rattle.ranges.specs.Bytes.{Outcome, got, refused}
 use Rattle.frames.specs.Frames.{extent}
-use Rattle.reader.specs.Records.{Record, enter, remove, confirm, preview, query, readCanonical}
-use Rattle.reader.specs.Requests.{fits}
+use Rattle.contents.specs.Records.{Record, enter, remove, confirm, preview, query}
+use Rattle.reader.specs.Records.{readCanonical}
+use Rattle.contents.specs.Requests.{fits}
 
 -- What stands: a grant with its status, trusted, issued by a principal, or issued provisionally.
 pub record Entry : Type 0 where

@@ -14,8 +14,9 @@ use Rattle.rows.specs.Allowed.{AllowedConcl}
 use Rattle.ranges.specs.Bytes.{Outcome, got}
 use Rattle.canon.specs.Canon.{canon}
 use Rattle.frames.specs.Frames.{extent}
-use Rattle.reader.specs.Records.{Record, query, readRecord, canonRecord, readCanonical}
-use Rattle.reader.specs.Requests.{fits}
+use Rattle.contents.specs.Records.{Record, query, canonRecord}
+use Rattle.reader.specs.Records.{readRecord, readCanonical}
+use Rattle.contents.specs.Requests.{fits}
 use Rattle.exact.specs.Writing.{AllowedRecord}
 use Rattle.exact.proofs.Exact.{record-read}
 use Rattle.exact.proofs.CanonicalRecords.{canonical-of}

@@ -9,7 +9,7 @@ use Rattle.sorts.specs.Numbers.{numberOf, speakers, packs, allMarks}
 use Rattle.rows.specs.Written as written
 use Rattle.rows.specs.Written.{perm, run, export}
 use Rattle.rows.specs.Form.{conclOf}
-use Rattle.reader.specs.Records.{query}
+use Rattle.contents.specs.Records.{query}
 use Rattle.exact.specs.Writing.{writtenRecord}
 use Rattle.bookform.specs.declared.Book.{Book}
 use Rattle.answer.specs.declared.Answer.the-variants.{Permitted}

@@ -15,8 +15,9 @@ use Rattle.rows.specs.Form.{conclOf}
 use Rattle.rows.proofs.Bytes.{no-true}
 use Rattle.ranges.specs.Bytes.{Outcome, got, refused}
 use Rattle.frames.specs.Frames.{extent}
-use Rattle.reader.specs.Records.{Record, enter, remove, confirm, preview, query, readCanonical}
-use Rattle.reader.specs.Requests.{fits}
+use Rattle.contents.specs.Records.{Record, enter, remove, confirm, preview, query}
+use Rattle.reader.specs.Records.{readCanonical}
+use Rattle.contents.specs.Requests.{fits}
 use Rattle.exact.specs.Writing.{AllowedRecord}
 use Rattle.exact.proofs.CanonicalRecords.{canonical-exact}
 use Rattle.bookform.specs.declared.Book.{Book}

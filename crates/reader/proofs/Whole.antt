@@ -13,10 +13,11 @@ use Rattle.frames.specs.declared.FrameOut.{FrameOut}
 use Rattle.frames.specs.declared.FrameOut.the-variants as opening
 use Rattle.frames.specs.Frames.{ends, frame}
 use Rattle.frames.specs.inner.Told.{Opens}
-use Rattle.reader.specs.declared.records.Request.{Request}
-use Rattle.reader.specs.declared.records.Found.the-variants.{Asks, Full, Unknown, Refused}
-use Rattle.reader.specs.declared.records.Reading.{Reading}
-use Rattle.reader.specs.inner.OneRecord.{noR, numContent, ending, numWhole, numFramed, numRecord}
+use Rattle.contents.specs.declared.Request.{Request}
+use Rattle.contents.specs.declared.Found.the-variants.{Asks, Full, Unknown, Refused}
+use Rattle.contents.specs.declared.Reading.{Reading}
+use Rattle.contents.specs.inner.Numbered.{noR, numContent}
+use Rattle.reader.specs.inner.OneRecord.{ending, numWhole, numFramed, numRecord}
 
 -- the record's answer, by its frame
 pub record-no : (s : List ℕ) (t : Table) (j : ℕ) (r : FrameOut) → Opens (frame s) s r → r ≡ opening.No j → noR t 0 j ≡ numRecord s t

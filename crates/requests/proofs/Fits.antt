@@ -9,11 +9,11 @@ use Rattle.sorts.specs.declared.Status.{Status}
 use Rattle.sorts.specs.declared.Status.the-variants.{Issued}
 use Rattle.sorts.specs.Numbers.{numberOf, allMarks, grants}
 use Rattle.sorts.specs.Flags.{StatusRange}
-use Rattle.reader.specs.declared.records.Request.{Request}
-use Rattle.reader.specs.declared.records.Request.the-variants.{Enter, Remove, Confirm, Preview, Query}
-use Rattle.reader.specs.declared.records.Found.{Found}
-use Rattle.reader.specs.declared.records.Found.the-variants.{Asks}
-use Rattle.reader.specs.declared.records.Reading.{Reading}
+use Rattle.contents.specs.declared.Request.{Request}
+use Rattle.contents.specs.declared.Request.the-variants.{Enter, Remove, Confirm, Preview, Query}
+use Rattle.contents.specs.declared.Found.{Found}
+use Rattle.contents.specs.declared.Found.the-variants.{Asks}
+use Rattle.contents.specs.declared.Reading.{Reading}
 use Rattle.bookform.specs.declared.Book.{Book}
 use Rattle.requests.specs.inner.Apply.{FoundFits, Ready}
 

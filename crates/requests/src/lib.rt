@@ -2,9 +2,9 @@
 use answer::Answered;
 use answer::refuse;
 use bookform::Book;
-use reader::records::Found;
-use reader::records::Reading;
-use reader::records::Request;
+use contents::Found;
+use contents::Reading;
+use contents::Request;
 use rows::Table;
 use sorts::Refusal;
 ghost use mathlib.Core.Path.{_≡_};

@@ -16,7 +16,7 @@ use Rattle.rules.specs.Standing.{All, Some, Rule, ClosedRules, In, Bits, blank}
 use Rattle.rules.proofs.Lists.{met-map}
 use Rattle.rules.proofs.Saturation.{in-set, in-set-cases, bits-set, same-marks}
 use Rattle.rules.proofs.Standing.{blank-length, blank-bits, blank-none}
-use Rattle.reader.specs.Requests.{fits}
+use Rattle.contents.specs.Requests.{fits}
 use Rattle.machine.specs.Machine.{State}
 use Rattle.machine.specs.Closed.{ClosedSet, Stands, Lacking}
 use Rattle.marks.specs.Counts.{Statements, truths, sayings, ones, marksOf as kindMarks}

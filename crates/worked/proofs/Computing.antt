@@ -6,7 +6,8 @@ use Rattle.ranges.specs.Bytes.{byteAt, upto, principal, pack, tag, header}
 use Rattle.grants.specs.Grants.{readProperty, readPacked, readIssue, readConcl, readConds, readWith, readGrant}
 use Rattle.canon.specs.Canon.{order, condBytes, orderCond, canon, insert as put}
 use Rattle.frames.specs.Frames.{kindWith, readMark, frame, extent}
-use Rattle.reader.specs.Records.{readEntry, readLicence, readQuery, readContent, readWhole, readRecord, readCanonical}
+use Rattle.contents.specs.Records.{readEntry, readLicence, readQuery, readContent}
+use Rattle.reader.specs.Records.{readWhole, readRecord, readCanonical}
 use Rattle.exact.specs.Writing.{inFrame, writtenRecord}
 use Rattle.rules.specs.Rules.{resUnder, conclUnder, granted, condition}
 use Rattle.rules.specs.Standing.{needsOf, fired, at, atXY, atX, ofRow}

@@ -6,7 +6,7 @@ use native.Mathlib.Nat.{add-zero, add-suc}
 use native.Mathlib.Omega.{arith}
 use lib.ListN.{length}
 use lib.IntN.{ℤ, pos, negsuc, predℤ, negℤ, _+ℤ_, _-ℤ_, pred-suc, sucℤ-+ℤ, +ℤ-predℤ}
-use Rattle.reader.specs.Records.{Record}
+use Rattle.contents.specs.Records.{Record}
 use Rattle.exact.specs.Writing.{writtenRecord}
 use Rattle.rules.specs.Standing.{Bits}
 use Rattle.rules.proofs.Saturation.{same-marks}

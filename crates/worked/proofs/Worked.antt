@@ -8,7 +8,7 @@ use lib.IntN.{ℤ, pos, negsuc, _-ℤ_}
 use lib.ListN.{length}
 use Rattle.rows.specs.Written.{sameWritten}
 use Rattle.rows.proofs.Bytes.{same-eq}
-use Rattle.reader.specs.Records.{Record}
+use Rattle.contents.specs.Records.{Record}
 use Rattle.machine.specs.Machine.{State, Verdict, changes, previews, asks, refuses, start}
 use Rattle.machine.proofs.Choices.{permitted-none, not-permitted-all, open-both}
 use Rattle.marks.specs.Counts.{Statements, truths, sayings, countsOf, changeIn}

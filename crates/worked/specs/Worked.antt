@@ -12,7 +12,7 @@ use Rattle.sorts.specs.Numbers.{numberOf, allMarks}
 use Rattle.rows.specs.Written.{Grant, Concl, grant, none, also, property, perm, issue, issueAny, run, export}
 use Rattle.rows.specs.Form.{conclOf}
 use Rattle.canon.specs.Canon.{canon, canonConcl}
-use Rattle.reader.specs.Records.{Record, enter, remove, confirm, preview, query}
+use Rattle.contents.specs.Records.{Record, enter, remove, confirm, preview, query}
 use Rattle.exact.specs.Writing.{writtenRecord}
 use Rattle.machine.specs.Machine.{State, Step, Verdict, changes, previews, start, feed}
 use Rattle.machine.specs.Closed.{Stands, none as noneChosen}

@@ -8,10 +8,10 @@ use Rattle.sorts.specs.declared.Status.the-variants.{Issued, Provisional}
 use Rattle.sorts.specs.Numbers.{numberOf, allMarks, grants}
 use Rattle.sorts.specs.Flags.{StatusRange, allFlags}
 use Rattle.rows.specs.declared.Table.{Table}
-use Rattle.reader.specs.declared.records.Request.the-variants.{Enter, Remove, Confirm, Preview, Query}
-use Rattle.reader.specs.declared.records.Found.{Found}
-use Rattle.reader.specs.declared.records.Found.the-variants as found
-use Rattle.reader.specs.declared.records.Reading.{Reading}
+use Rattle.contents.specs.declared.Request.the-variants.{Enter, Remove, Confirm, Preview, Query}
+use Rattle.contents.specs.declared.Found.{Found}
+use Rattle.contents.specs.declared.Found.the-variants as found
+use Rattle.contents.specs.declared.Reading.{Reading}
 use Rattle.rules.specs.Rules.{RowsForm}
 use Rattle.flags.specs.Changes.{isSet, thereFlags}
 use Rattle.bookform.specs.declared.Book.{Book}
