@@ -55,7 +55,7 @@ pub fn answer_for(c: Concl, marks: &[u8], second: &[u8]) -> Answer
     }
 }
 
-// QU: the answer for the conclusion, and the book with the record's grants numbered.
+// qu: the answer for the conclusion, and the book with the record's grants numbered.
 pub fn query(b: Book, t: Table, c: Concl, marks: &[u8], second: &[u8], used: usize) -> Answered
     requires { ⌜ (numberOf c < length (now marks)) × (numberOf c < length (now second)) ⌝ }
     ensures { λ r. ⌜ r ≡ queried b t c (now (marks .entry)) (now (second .entry)) used ⌝ }

@@ -26,7 +26,7 @@ use Rattle.contents.specs.inner.Numbered.{noR, numContent}
 use Rattle.contents.proofs.Contents.{RightUsing, Right, Keeps, inForm, content-right, content-keeps, found-number}
 use Rattle.reader.specs.Records.{fitted, readWhole, framed, readRecord, readCanonical}
 use Rattle.reader.specs.Requests.{Reads}
-use Rattle.reader.specs.inner.OneRecord.{wholeOf, numWhole, numFramed, numRecord}
+use Rattle.reader.specs.inner.OneRecord.{ending, wholeOf, numWhole, numFramed, numRecord}
 
 module _ (t : Table) (f : TableForm t) where
   abbrev N : List Grant
@@ -44,26 +44,22 @@ module _ (t : Table) (f : TableForm t) where
 
     -- what was found of a record that was read, and ended at n
     module _ (n : ℕ) (u : Table) (g : TableForm u) where
-      asks-or-full : (c : Bool) (q : Request) (r : Record) → foundOf N (4 + len) (got r (4 + len)) ≡ cond c (Asks q (4 + len)) (Full (4 + len)) →
-          rowsOut (u .rows) (u .count) ≡ numberedBy N (got r (4 + len)) →
-          RightUsing (4 + len) N t (cond (eqb n len) (got r (4 + len)) (refused 10)) (wholeOf t len u (cond c (Asks q n) (Full n)))
-      asks-or-full true q r e p = ends-right (got r (4 + len)) n (record { table = u; found = Asks q (4 + len) }) (eqb n len) refl (λ _. record { found = sym e; rows = p; form = g })
-      asks-or-full false q r e p = ends-right (got r (4 + len)) n (record { table = u; found = Full (4 + len) }) (eqb n len) refl (λ _. record { found = sym e; rows = p; form = g })
-
-      asks-or-unknown : (c : Bool) (q : Request) (r : Record) → foundOf N (4 + len) (got r (4 + len)) ≡ cond c (Asks q (4 + len)) (Unknown (4 + len)) →
-          rowsOut (u .rows) (u .count) ≡ numberedBy N (got r (4 + len)) →
-          RightUsing (4 + len) N t (cond (eqb n len) (got r (4 + len)) (refused 10)) (wholeOf t len u (cond c (Asks q n) (Unknown n)))
-      asks-or-unknown true q r e p = ends-right (got r (4 + len)) n (record { table = u; found = Asks q (4 + len) }) (eqb n len) refl (λ _. record { found = sym e; rows = p; form = g })
-      asks-or-unknown false q r e p = ends-right (got r (4 + len)) n (record { table = u; found = Unknown (4 + len) }) (eqb n len) refl (λ _. record { found = sym e; rows = p; form = g })
+      asks-or : (other : ℕ → Found) → wholeOf t len u (other n) ≡ ending t len n (record { table = u; found = other (4 + len) }) → (c : Bool) (q : Request) (r : Record) →
+          foundOf N (4 + len) (got r (4 + len)) ≡ cond c (Asks q (4 + len)) (other (4 + len)) → rowsOut (u .rows) (u .count) ≡ numberedBy N (got r (4 + len)) →
+          RightUsing (4 + len) N t (cond (eqb n len) (got r (4 + len)) (refused 10)) (wholeOf t len u (cond c (Asks q n) (other n)))
+      asks-or other is true q r e p =
+          ends-right (got r (4 + len)) n (record { table = u; found = Asks q (4 + len) }) (eqb n len) refl (λ _. record { found = sym e; rows = p; form = g })
+      asks-or other is false q r e p =
+          rw is (ends-right (got r (4 + len)) n (record { table = u; found = other (4 + len) }) (eqb n len) refl (λ _. record { found = sym e; rows = p; form = g }))
 
       found-ends : (r : Record) → rowsOut (u .rows) (u .count) ≡ numberedBy N (got r n) →
           RightUsing (4 + len) N t (cond (eqb n len) (got r (4 + len)) (refused 10)) (wholeOf t len u (foundOf N 0 (got r n)))
       unfolding foundOf numberedBy
-      found-ends (enter by x) p = asks-or-full (fits (number x N)) _ (enter by x) refl p
-      found-ends (remove by x) p = asks-or-unknown (has x N) _ (remove by x) refl p
-      found-ends (confirm q x) p = asks-or-unknown (has x N) _ (confirm q x) refl p
-      found-ends (preview q x) p = asks-or-unknown (has x N) _ (preview q x) refl p
-      found-ends (query c) p = asks-or-full (fits (numberConcl c N)) _ (query c) refl p
+      found-ends (enter by x) p = asks-or Full refl (fits (number x N)) _ (enter by x) refl p
+      found-ends (remove by x) p = asks-or Unknown refl (has x N) _ (remove by x) refl p
+      found-ends (confirm q x) p = asks-or Unknown refl (has x N) _ (confirm q x) refl p
+      found-ends (preview q x) p = asks-or Unknown refl (has x N) _ (preview q x) refl p
+      found-ends (query c) p = asks-or Full refl (fits (numberConcl c N)) _ (query c) refl p
 
     -- a record in form, of a content that was read as o
     whole-right : (o : Outcome Record) (r : Reading) → Right N t (inForm o) r →
@@ -94,22 +90,14 @@ asks-numbers (Confirm p g) n m = refl
 asks-numbers (Preview p g) n m = refl
 asks-numbers (Query c) n m = refl
 
+ending-keeps : (t : Table) (len : ℕ) (r : Reading) → Keeps t r → (b : Bool) → Keeps t (cond b r (noR t (4 + len) 10))
+ending-keeps t len r h true = h
+ending-keeps t len r h false = λ e. refl
+
 whole-keeps : (t : Table) (len : ℕ) (u : Table) (x : Found) → (numbers x ≡ false → u ≡ t) → Keeps t (wholeOf t len u x)
-whole-keeps t len u (Asks q n) h = go (eqb n len)
-  where
-    go : (b : Bool) → Keeps t (cond b (record { table = u; found = Asks q (4 + len) }) (noR t (4 + len) 10))
-    go true e = h (asks-numbers q n (4 + len) ∙ e)
-    go false e = refl
-whole-keeps t len u (Full n) h = go (eqb n len)
-  where
-    go : (b : Bool) → Keeps t (cond b (record { table = u; found = Full (4 + len) }) (noR t (4 + len) 10))
-    go true e = h refl
-    go false e = refl
-whole-keeps t len u (Unknown n) h = go (eqb n len)
-  where
-    go : (b : Bool) → Keeps t (cond b (record { table = u; found = Unknown (4 + len) }) (noR t (4 + len) 10))
-    go true e = h refl
-    go false e = refl
+whole-keeps t len u (Asks q n) h = ending-keeps t len (record { table = u; found = Asks q (4 + len) }) (λ e. h (asks-numbers q n (4 + len) ∙ e)) (eqb n len)
+whole-keeps t len u (Full n) h = ending-keeps t len (record { table = u; found = Full (4 + len) }) (λ e. h refl) (eqb n len)
+whole-keeps t len u (Unknown n) h = ending-keeps t len (record { table = u; found = Unknown (4 + len) }) (λ e. h refl) (eqb n len)
 whole-keeps t len u (Refused k n) h = λ e. refl
 
 record-keeps : (s : List ℕ) (t : Table) → Keeps t (numRecord s t)
