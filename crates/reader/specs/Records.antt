@@ -6,7 +6,7 @@ use lib.ListN.{length}
 use lib.Dec.{eqb}
 use Rattle.ranges.specs.Bytes.{Outcome, got, refused, andThen}
 use Rattle.frames.specs.declared.Kind.{Kind}
-use Rattle.frames.specs.Frames.{Frame, holds, ends, frame}
+use Rattle.frames.specs.Frames.{Frame, holds, ends, frame, frameLength}
 use Rattle.contents.specs.Records.{Record, readContent, canonRecord}
 
 -- 10: "when a record's content needs fewer or more bytes than its stated length; found from left to right like the others". What was
@@ -18,9 +18,9 @@ fitted len (refused k) = refused (cond (eqb k 1) 10 k)
 unfoldable pub readWhole : Kind → List ℕ → Outcome Record
 readWhole k c = fitted (length c) (readContent k c)
 
--- A record as it is written, which may be followed by others, and its length: that of its content, and the four bytes before it.
+-- A record as it is written, which may be followed by others, and its length.
 abbrev pub framed : Frame → Outcome Record
-framed (holds k c) = andThen (readWhole k c) (λ r n. got r (4 + length c))
+framed (holds k c) = andThen (readWhole k c) (λ r n. got r (frameLength (holds k c)))
 framed (ends j) = refused j
 
 unfoldable pub readRecord : List ℕ → Outcome Record
