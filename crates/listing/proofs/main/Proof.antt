@@ -7,7 +7,7 @@ use Rattle.listing.proofs.main.Reads as reads
 use Rattle.listing.proofs.main.Lts as lts
 use Rattle.io.proofs.write_all.Reads as write-all-reads
 use Rattle.listing.proofs.list.Reads as list-reads
-use Rattle.listing.proofs.read_all.Reads as read-all-reads
+use Rattle.input.proofs.read_all.Reads as read-all-reads
 
 slice-aggregate-read-all : tie.Need-slice-aggregate-read-all
 slice-aggregate-read-all c = search needs

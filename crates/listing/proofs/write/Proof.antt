@@ -1,10 +1,10 @@
-use Rattle.listing.proofs.Turns.{not-shut}
+use Rattle.output.proofs.Failing.{not-shut}
 use borrow.Author.Needs.{needs}
 use Rattle.listing.proofs.write.Statement.{statement}
 use Rattle.listing.proofs.write.Tie as tie
 use Rattle.listing.proofs.write.Reads as reads
 use Rattle.listing.proofs.write.Lts as lts
-use Rattle.listing.proofs.write_line.Reads as write-line-reads
+use Rattle.output.proofs.write_line.Reads as write-line-reads
 
 -- src/main.rt:197:17
 add-lines : tie.Need-add-lines

@@ -1,11 +1,11 @@
 use mathlib.Core.Path.{sym, ap, _∙_}
 use Rattle.pieces.specs.Pieces.{wordBytes}
 use borrow.Author.Needs.{needs}
-use Rattle.listing.proofs.put_word.Statement.{statement}
-use Rattle.listing.proofs.put_word.Tie as tie
-use Rattle.listing.proofs.put_word.Reads as reads
-use Rattle.listing.proofs.put_word.Lts as lts
-use Rattle.listing.proofs.put.Reads as put-reads
+use Rattle.output.proofs.put_word.Statement.{statement}
+use Rattle.output.proofs.put_word.Tie as tie
+use Rattle.output.proofs.put_word.Reads as reads
+use Rattle.output.proofs.put_word.Lts as lts
+use Rattle.output.proofs.put.Reads as put-reads
 
 -- src/main.rt:152:34
 enum-told : tie.Need-enum-told

@@ -1,10 +1,10 @@
 use mathlib.Core.Path.{refl}
-use Rattle.listing.proofs.Turns.{apart}
+use Rattle.input.proofs.Turns.{apart}
 use borrow.Author.Needs.{needs}
-use Rattle.listing.proofs.failed.Statement.{statement}
-use Rattle.listing.proofs.failed.Tie as tie
-use Rattle.listing.proofs.failed.Reads as reads
-use Rattle.listing.proofs.failed.Lts as lts
+use Rattle.input.proofs.failed.Statement.{statement}
+use Rattle.input.proofs.failed.Tie as tie
+use Rattle.input.proofs.failed.Reads as reads
+use Rattle.input.proofs.failed.Lts as lts
 use Rattle.os.proofs.errno.Reads as errno-reads
 
 errno-requires : tie.Need-errno-requires

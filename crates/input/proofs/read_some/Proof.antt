@@ -1,11 +1,11 @@
-use Rattle.listing.proofs.Turns.{roomAfter, moved-as, same}
+use Rattle.input.proofs.Turns.{roomAfter, moved-as, same}
 use borrow.Author.Needs.{needs}
-use Rattle.listing.proofs.read_some.Statement.{statement}
-use Rattle.listing.proofs.read_some.Tie as tie
-use Rattle.listing.proofs.read_some.Reads as reads
-use Rattle.listing.proofs.read_some.Lts as lts
+use Rattle.input.proofs.read_some.Statement.{statement}
+use Rattle.input.proofs.read_some.Tie as tie
+use Rattle.input.proofs.read_some.Reads as reads
+use Rattle.input.proofs.read_some.Lts as lts
 use Rattle.libc.proofs.read.Reads as read-reads
-use Rattle.listing.proofs.heard.Reads as heard-reads
+use Rattle.input.proofs.heard.Reads as heard-reads
 
 sub-read : tie.Need-sub-read
 sub-read c = search needs

@@ -1,7 +1,7 @@
 -- Each read leaves less to do: bytes to come, or interrupted reads that may be made again.
 use Prim.Native.Nat.{ℕ, zero, suc, _+_, _-_, _≤_, _<_}
-use mathlib.Core.Path.{_≡_, refl, ap, sym, _∙_, subst}
-use mathlib.Core.Bool.{Bool, true, false, cond, not}
+use mathlib.Core.Path.{_≡_, refl, sym, _∙_, subst}
+use mathlib.Core.Bool.{Bool, true, false, cond, not, true≢false}
 use mathlib.Core.List.{List}
 use native.Mathlib.Omega.{arith}
 use borrow.Author.Tests.{ltb-true}
@@ -16,15 +16,11 @@ use mir.Facts.{toZ-ofZ}
 use borrow.Author.Needs.{sfits-of}
 use Rattle.io.specs.Counts.{clamped}
 use Rattle.libc.specs.Io.{Moved}
-use Rattle.listing.specs.declared.Input.{Input}
-use Rattle.listing.specs.Inputs.{Heard}
+use Rattle.input.specs.declared.Input.{Input}
+use Rattle.input.specs.Inputs.{Heard}
 
 pub apart : {b : Bool} → b ≡ false → b ≡ true → ⊥
-apart e f = let z : _≡_ {A = ℕ} 0 1 = ap (λ (x : Bool). cond x 1 0) (sym e ∙ f) in absurd (omega arith)
-
-pub not-shut : (b : Bool) → b ≡ false → not b ≡ false → ⊥
-not-shut true e f = apart e refl
-not-shut false e f = apart f refl
+apart e f = true≢false (sym f ∙ e)
 
 -- what is left to do, where len bytes have room, n were read and t interrupted reads may be made again
 abbrev pub left : Bool → ℕ → ℕ → ℕ → ℕ

@@ -3,13 +3,13 @@ use mathlib.Core.Path.{_≡_, refl, sym, _∙_}
 use native.Mathlib.Omega.{arith}
 use lib.ListN.{length}
 use lib.Seq.{length-take-le}
-use Rattle.listing.proofs.Turns.{left, less}
+use Rattle.input.proofs.Turns.{left, less}
 use borrow.Author.Needs.{needs}
-use Rattle.listing.proofs.read_all.Statement.{statement}
-use Rattle.listing.proofs.read_all.Tie as tie
-use Rattle.listing.proofs.read_all.Reads as reads
-use Rattle.listing.proofs.read_all.Lts as lts
-use Rattle.listing.proofs.read_some.Reads as read-some-reads
+use Rattle.input.proofs.read_all.Statement.{statement}
+use Rattle.input.proofs.read_all.Tie as tie
+use Rattle.input.proofs.read_all.Reads as reads
+use Rattle.input.proofs.read_all.Lts as lts
+use Rattle.input.proofs.read_some.Reads as read-some-reads
 
 abbrev Inv-loop : tie.InvT-loop
 Inv-loop buf₀ i₀ open₀ buf i «open» = (i .n ≤ length buf₀) × (length buf ≡ length buf₀) × («open» ≡ i .«open»)

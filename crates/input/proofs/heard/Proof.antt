@@ -1,14 +1,14 @@
 use mathlib.Core.Path.{refl}
 use native.Mathlib.Omega.{arith}
 use lib.ListN.{length}
-use Rattle.listing.proofs.Turns.{apart, heard-failed, heard-none, heard-more, same}
+use Rattle.input.proofs.Turns.{apart, heard-failed, heard-none, heard-more, same}
 use borrow.Author.Needs.{needs}
-use Rattle.listing.proofs.heard.Statement.{statement}
-use Rattle.listing.proofs.heard.Tie as tie
-use Rattle.listing.proofs.heard.Reads as reads
-use Rattle.listing.proofs.heard.Lts as lts
+use Rattle.input.proofs.heard.Statement.{statement}
+use Rattle.input.proofs.heard.Tie as tie
+use Rattle.input.proofs.heard.Reads as reads
+use Rattle.input.proofs.heard.Lts as lts
 use Rattle.io.proofs.count.Reads as count-reads
-use Rattle.listing.proofs.failed.Reads as failed-reads
+use Rattle.input.proofs.failed.Reads as failed-reads
 
 failed-requires : tie.Need-failed-requires
 failed-requires c κs = search needs

@@ -3,7 +3,7 @@ use Prim.Native.Nat.{zero, suc, _+_}
 use mathlib.Core.Path.{_≡_}
 use mathlib.Core.Bool.{true, false, not}
 use lib.IntN.{ℤ, pos, negsuc}
-use Rattle.listing.specs.declared.Input.{Input}
+use Rattle.input.specs.declared.Input.{Input}
 
 -- The input r after a read that answered z, where it was i before: a read that failed is told, or made again; 0 is the end of
 -- the input; else there are so many bytes more.

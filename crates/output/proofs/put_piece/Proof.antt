@@ -2,13 +2,13 @@ use mathlib.Core.Path.{sym, ap, _∙_}
 use Rattle.pieces.specs.Pieces.{bytesOf}
 use Rattle.lines.proofs.Joining.{piece-some}
 use borrow.Author.Needs.{needs}
-use Rattle.listing.proofs.put_piece.Statement.{statement}
-use Rattle.listing.proofs.put_piece.Tie as tie
-use Rattle.listing.proofs.put_piece.Reads as reads
-use Rattle.listing.proofs.put_piece.Lts as lts
+use Rattle.output.proofs.put_piece.Statement.{statement}
+use Rattle.output.proofs.put_piece.Tie as tie
+use Rattle.output.proofs.put_piece.Reads as reads
+use Rattle.output.proofs.put_piece.Lts as lts
 use Rattle.lines.proofs.piece_at.Reads as piece-at-reads
-use Rattle.listing.proofs.put.Reads as put-reads
-use Rattle.listing.proofs.put_word.Reads as put-word-reads
+use Rattle.output.proofs.put.Reads as put-reads
+use Rattle.output.proofs.put_word.Reads as put-word-reads
 use Rattle.frames.proofs.Kind.letters.Reads as letters-reads
 
 -- src/main.rt:167:9

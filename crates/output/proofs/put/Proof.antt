@@ -1,9 +1,9 @@
-use Rattle.listing.proofs.Turns.{not-shut}
+use Rattle.output.proofs.Failing.{not-shut}
 use borrow.Author.Needs.{needs}
-use Rattle.listing.proofs.put.Statement.{statement}
-use Rattle.listing.proofs.put.Tie as tie
-use Rattle.listing.proofs.put.Reads as reads
-use Rattle.listing.proofs.put.Lts as lts
+use Rattle.output.proofs.put.Statement.{statement}
+use Rattle.output.proofs.put.Tie as tie
+use Rattle.output.proofs.put.Reads as reads
+use Rattle.output.proofs.put.Lts as lts
 use Rattle.io.proofs.write_all.Reads as write-all-reads
 
 -- src/main.rt:137:18

@@ -1,12 +1,12 @@
 use Prim.Native.Nat.{_-_, _≤_}
 use native.Mathlib.Omega.{arith}
 use borrow.Author.Needs.{needs}
-use Rattle.listing.proofs.write_line.Statement.{statement}
-use Rattle.listing.proofs.write_line.Tie as tie
-use Rattle.listing.proofs.write_line.Reads as reads
-use Rattle.listing.proofs.write_line.Lts as lts
+use Rattle.output.proofs.write_line.Statement.{statement}
+use Rattle.output.proofs.write_line.Tie as tie
+use Rattle.output.proofs.write_line.Reads as reads
+use Rattle.output.proofs.write_line.Lts as lts
 use Rattle.lines.proofs.sizes.of_line.Reads as of-line-reads
-use Rattle.listing.proofs.put_piece.Reads as put-piece-reads
+use Rattle.output.proofs.put_piece.Reads as put-piece-reads
 
 abbrev Inv-loop : tie.InvT-loop
 Inv-loop l n h₀ h = h .pieces ≤ n
