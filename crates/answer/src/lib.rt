@@ -1,4 +1,6 @@
 // What a call answers: a refusal, and the answer of a query from its marks.
+#![tactic(auto)]
+
 ghost use Rattle.std.specs.Prelude.{◌≡◌, ◌<◌, length};
 ghost use Rattle.sorts.specs.Numbers.{number_of};
 ghost use Rattle.answer.specs.Answers.{answer_at};
@@ -10,7 +12,7 @@ use rows::Table;
 use sorts::{Concl, Number};
 
 // What a call answers.
-#[derive(Drop)]
+#[derive(Clone, Copy)]
 pub enum Answer {
     Permitted,
     Open,
@@ -21,7 +23,7 @@ pub enum Answer {
 }
 
 // The book that a call leaves, its answer, and the bytes of the record used.
-#[derive(Drop)]
+#[derive(Clone, Copy)]
 pub struct Answered {
     pub book: Book,
     pub answer: Answer,

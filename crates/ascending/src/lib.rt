@@ -1,5 +1,7 @@
 // Whether the grants of a table, written out, are in canonical form: in each row the conditions ascend. Rows
 // are compared by their words.
+#![tactic(auto)]
+
 ghost use Rattle.std.specs.Prelude.{true, ◌≡◌, length, get_or};
 ghost use Prim.Native.Nat.{ℕ, ◌+◌, ◌≤◌, ◌<◌, Ordering};
 ghost use Rattle.sorts.specs.Numbers.{conditions};

@@ -1,4 +1,6 @@
 // A book, a fresh one, and whether a book that is lent is in form.
+#![tactic(auto)]
+
 ghost use Rattle.std.specs.Prelude.{◌≡◌};
 ghost use Rattle.sorts.specs.Decides.{Decides};
 ghost use Rattle.bookform.specs.Books.{fresh_book, MarksForm, BookForm};
@@ -9,7 +11,7 @@ use rows::Table;
 use sorts::{Number, Row, Status};
 
 // The grant table, and how each of its grants stands: the flags of each row.
-#[derive(Drop)]
+#[derive(Clone, Copy)]
 pub struct Book {
     pub table: Table,
     pub flags: [u8; Status::ALL],

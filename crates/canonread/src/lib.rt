@@ -1,5 +1,7 @@
 // The readers of a grant and of a conclusion in a record: read as written, which finds its faults and its end; then brought to its
 // form and read again, which numbers it.
+#![tactic(auto)]
+
 ghost use Rattle.std.specs.Prelude.{◌≡◌, ◌≤◌, min, length};
 ghost use Rattle.sorts.specs.Numbers.{grants, depths};
 ghost use Rattle.grants.specs.Inner.OnePass.{num_grant, num_concl};

@@ -1,5 +1,7 @@
 // The form of a grant written into a buffer, from left to right: the conditions met so far stand in the buffer as segments that
 // ascend, and a new one, written behind them, is left out or turned into its place.
+#![tactic(auto)]
+
 ghost use Rattle.std.specs.Prelude.{◌≡◌, ◌+◌, ◌≤◌, ◌<◌, min, length, take};
 ghost use Rattle.sorts.specs.Numbers.{conditions, depths};
 ghost use Rattle.canonwrite.specs.Buffer.{copy_three, put_in, put_concl, put_conds, put_grant};
@@ -20,21 +22,21 @@ pub const MOST_CONCL: usize = 3 + MOST_GRANT;
 
 // What writing a form answers: the buffer is too short for some form; or the place after the bytes read and the place after
 // those written, from the buffer's first byte on.
-#[derive(Drop)]
+#[derive(Clone, Copy)]
 pub enum Formed {
     Short,
     Wrote(usize, usize),
 }
 
 // The place after the bytes read, and the place after those written.
-#[derive(Drop)]
+#[derive(Clone, Copy)]
 pub struct Place {
     pub at: usize,
     pub to: usize,
 }
 
 // The same with the lengths of the segments, `count` of them.
-#[derive(Drop)]
+#[derive(Clone, Copy)]
 pub struct Segments {
     pub at: usize,
     pub to: usize,

@@ -1,4 +1,6 @@
 // The contents of records: what a record of each kind asks, with its grants numbered.
+#![tactic(auto)]
+
 ghost use Rattle.std.specs.Prelude.{◌≡◌, ◌≤◌};
 ghost use Rattle.sorts.specs.Numbers.{grants};
 ghost use Rattle.contents.specs.Inner.Numbered.{starting, no_r, given, num_entry, asked, known, num_revision, num_query, num_licensed, num_licence, num_content};
@@ -14,7 +16,7 @@ const LAST_ISSUER: u8 = Prin::SPEAKERS - 1;
 
 // What a record asks, with each grant as its number: to enter or to remove a trusted grant or a licence, to make a principal's
 // provisional licence firm, to preview the withdrawal of a licence, or an answer.
-#[derive(Drop)]
+#[derive(Clone, Copy)]
 pub enum Request {
     Enter(Status, GrantNo),
     Remove(Status, GrantNo),
@@ -25,7 +27,7 @@ pub enum Request {
 
 // A revision of what stands, whose grant must have a number: its removal, that a principal's provisional licence becomes firm, or the
 // preview of a licence's withdrawal.
-#[derive(Drop)]
+#[derive(Clone, Copy)]
 enum Revision {
     Remove(Status),
     Confirm(Prin),
@@ -34,7 +36,7 @@ enum Revision {
 
 // What a record does with a licence: it enters a firm or a provisional one, withdraws one, makes a provisional one firm, or previews
 // its withdrawal.
-#[derive(Drop)]
+#[derive(Clone, Copy)]
 enum Deed {
     Issue,
     Provisional,
@@ -45,7 +47,7 @@ enum Deed {
 
 // What the reader found: a request; a record whose new grants find no numbers left; a record that removes, confirms or previews what
 // has no number; each with the record's length. Or the number of the refusal, with the bytes that are used.
-#[derive(Drop)]
+#[derive(Clone, Copy)]
 pub enum Found {
     Asks(Request, usize),
     Full(usize),
@@ -54,7 +56,7 @@ pub enum Found {
 }
 
 // What was found, and the table with the record's grants numbered.
-#[derive(Drop)]
+#[derive(Clone, Copy)]
 pub struct Reading {
     pub table: Table,
     pub found: Found,

@@ -1,4 +1,6 @@
 // The depths of the rows of a grant table, worked out row by row.
+#![tactic(auto)]
+
 ghost use Rattle.std.specs.Prelude.{◌≡◌, ℕ, ◌≤◌, ◌<◌, get_or};
 ghost use Rattle.sorts.specs.Numbers.{grants, conditions, depths};
 ghost use Rattle.sorts.specs.Blank.{no_row};

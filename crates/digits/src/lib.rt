@@ -1,4 +1,6 @@
 // Numbers in decimal, digit by digit.
+#![tactic(auto)]
+
 ghost use Rattle.std.specs.Prelude.{◌≡◌, ◌∷◌, ◌<◌, ◌≤◌, nat_abs, length, get_or};
 ghost use Rattle.digits.specs.Decimals.{decimal, signed};
 

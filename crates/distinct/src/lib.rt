@@ -1,4 +1,6 @@
 // Whether the rows of a grant table are distinct, by a key for each.
+#![tactic(auto)]
+
 ghost use Rattle.std.specs.Prelude.{true, ◌≡◌, ℕ, ◌≤◌, ◌<◌, length, get_or};
 ghost use Rattle.sorts.specs.Numbers.{grants};
 ghost use Rattle.sorts.specs.Blank.{no_row};

@@ -1,4 +1,6 @@
 // The flags of a book: as they change, and with every provisional licence taken as firm.
+#![tactic(auto)]
+
 pub mod changes;
 
 ghost use Rattle.std.specs.Prelude.{◌≡◌, ◌<◌, length};
@@ -18,7 +20,7 @@ fn larger(a: u8, b: u8) -> u8
 }
 
 // The flag at place i: of a principal's licence the larger of its two flags, firm and provisional, else the flag itself.
-fn both_at_lem(flags: &[u8; Status::ALL], i: usize) -> u8
+fn both_at(flags: &[u8; Status::ALL], i: usize) -> u8
     requires { i < all_flags }
     ensures { result ≡ both_at flags.now i }
 {
@@ -39,7 +41,7 @@ pub fn with_provisional(flags: [u8; Status::ALL]) -> [u8; Status::ALL]
     let mut both = flags;
     let mut i: usize = 0;
     while i < Status::ALL {
-        both[i] = both_at_lem(&flags, i);
+        both[i] = both_at(&flags, i);
         i += 1;
     }
     both

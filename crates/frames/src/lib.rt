@@ -1,4 +1,6 @@
 // The frame of a record: two mark bytes, two bytes with the length of its content, and the content.
+#![tactic(auto)]
+
 ghost use Rattle.std.specs.Prelude.{◌≡◌, ◌≤◌, drop};
 ghost use Rattle.frames.specs.Frames.{letters_of, kinds, opens, kind_with, read_mark, stated, sized, frame};
 ghost use Rattle.frames.specs.Inner.Told.{as_mark, longest, Opens};
@@ -9,7 +11,7 @@ use sorts::Refusal;
 pub const HEADER: usize = 4;
 
 // The kinds of record.
-#[derive(Drop)]
+#[derive(Clone, Copy)]
 pub enum Kind {
     Tg,
     St,
@@ -22,14 +24,14 @@ pub enum Kind {
 }
 
 // A record's kind with the place after its mark, or the number of the refusal.
-#[derive(Drop)]
+#[derive(Clone, Copy)]
 pub enum MarkOut {
     Got(Kind, usize),
     No(u8),
 }
 
 // A record's kind with the length of its content, which is all there, or the number of the refusal.
-#[derive(Drop)]
+#[derive(Clone, Copy)]
 pub enum FrameOut {
     Got(Kind, usize),
     No(u8),

@@ -1,4 +1,6 @@
 // The readers of a grant and of a conclusion, which call each other: one pass from left to right that reads and numbers.
+#![tactic(auto)]
+
 ghost use Rattle.std.specs.Prelude.{◌≡◌, ◌≤◌, ◌<◌, ◌+◌};
 ghost use Rattle.sorts.specs.Numbers.{grants, conditions};
 ghost use Rattle.grants.specs.Inner.OnePass.{num_grant, num_concl, num_conds, num_issue, num_granted, num_property, num_packed};
@@ -11,39 +13,39 @@ use sorts::{Concl, Cond, GrantNo, Number, Pack, Prin, Refusal, Res, Row};
 const LAST_PROPERTY: u8 = Number::PROPERTIES as u8 - 1;
 
 // A grant's number with the place after the grant, or the number of the refusal.
-#[derive(Drop)]
+#[derive(Clone, Copy)]
 pub enum GrantOut {
     Got(GrantNo, usize),
     Refused(u8),
 }
 
-#[derive(Drop)]
+#[derive(Clone, Copy)]
 pub struct GrantReading {
     pub numbering: Numbering,
     pub out: GrantOut,
 }
 
 // A conclusion with its inner grant as its number, and the place after it; or the number of the refusal.
-#[derive(Drop)]
+#[derive(Clone, Copy)]
 pub enum ConclOut {
     Got(Concl, usize),
     Refused(u8),
 }
 
-#[derive(Drop)]
+#[derive(Clone, Copy)]
 pub struct ConclReading {
     pub numbering: Numbering,
     pub out: ConclOut,
 }
 
 // The place after the conditions, or the number of the refusal.
-#[derive(Drop)]
+#[derive(Clone, Copy)]
 pub enum CondsOut {
     At(usize),
     Refused(u8),
 }
 
-#[derive(Drop)]
+#[derive(Clone, Copy)]
 pub struct CondsReading {
     pub numbering: Numbering,
     pub conds: [Cond; Row::CONDITIONS],

@@ -1,4 +1,6 @@
 // Standard input, read to its end or until its room is full. What fails is told.
+#![tactic(auto)]
+
 ghost use Rattle.std.specs.Prelude.{true, false, not, ◌≡◌, ◌+◌, ◌<◌, ◌≤◌, length};
 ghost use Rattle.io.specs.Counts.{IsPrefixLen};
 ghost use Rattle.libc.specs.Io.{Moved};
@@ -7,7 +9,7 @@ ghost use Rattle.input.specs.Inputs.{Heard};
 use libc::{EINTR, STDIN_FILENO};
 
 // How many bytes were read, how many interrupted reads may still be made again, whether more may come, and whether a read failed.
-#[derive(Drop)]
+#[derive(Clone, Copy)]
 pub struct Input {
     pub n: usize,
     pub tries: usize,

@@ -1,4 +1,6 @@
 // The reading of a journal: its records, one after another, and the line of each.
+#![tactic(auto)]
+
 pub mod answers;
 
 ghost use Rattle.std.specs.Prelude.{◌≡◌, ◌≤◌, length};
@@ -10,7 +12,7 @@ use bookform::Book;
 use lines::Line;
 
 // What the call on a record answered, the record's line, and where the next record starts.
-#[derive(Drop)]
+#[derive(Clone, Copy)]
 pub struct Stepped {
     pub answered: Answered,
     pub line: Line,

@@ -1,4 +1,6 @@
 // The lines of a listing, and the pieces of each.
+#![tactic(auto)]
+
 pub mod sizes;
 
 ghost use Rattle.std.specs.Prelude.{◌≡◌, [], ◌∷◌, ◌++◌, get_or};
@@ -13,7 +15,7 @@ use marks::Counts;
 use pieces::{Piece, Word};
 
 // What a record's line says: the record's kind with the nets or the answer, or the number of the refusal.
-#[derive(Drop)]
+#[derive(Clone, Copy)]
 pub enum Said {
     Changed(Kind, Counts),
     Permitted(Kind),
@@ -23,7 +25,7 @@ pub enum Said {
 }
 
 // A line: of a record, with its number; the last, with the count of records and of marks; of a journal that is refused whole.
-#[derive(Drop)]
+#[derive(Clone, Copy)]
 pub enum Line {
     Record(usize, Said),
     End(usize, usize),

@@ -1,4 +1,6 @@
 // Reads a journal from standard input, and writes the listing to standard output. What fails is told on standard error.
+#![tactic(auto)]
+
 ghost use Rattle.std.specs.Prelude.{true, false, ◌≡◌, ◌+◌, ◌≤◌, length, take};
 ghost use Rattle.bookform.specs.Books.{fresh_marks};
 ghost use Rattle.io.specs.Counts.{IsPrefixLen};
@@ -13,7 +15,7 @@ use output::Handed;
 use sorts::Number;
 
 // How many lines were handed to the output, and whether it took them all.
-#[derive(Drop)]
+#[derive(Clone, Copy)]
 struct Output {
     lines: usize,
     open: bool,

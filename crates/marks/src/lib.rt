@@ -1,10 +1,12 @@
 // Marks: tested, counted, and written over by new ones.
+#![tactic(auto)]
+
 pub mod bits;
 pub mod renewal;
 pub mod standing;
 
 // The marks of one kind of statement gained and lost in a call, and gained less lost.
-#[derive(Drop)]
+#[derive(Clone, Copy)]
 pub struct Change {
     pub gained: u32,
     pub lost: u32,
@@ -12,7 +14,7 @@ pub struct Change {
 }
 
 // What changed in a call, of truths and of sayings.
-#[derive(Drop)]
+#[derive(Clone, Copy)]
 pub struct Counts {
     pub truths: Change,
     pub sayings: Change,

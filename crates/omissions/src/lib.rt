@@ -1,1 +1,2 @@
 // Refused records left out of a journal: definitions in specs/, theorems in proofs/. There is no code here.
+#![tactic(auto)]

@@ -1,4 +1,6 @@
 // A line written to standard output, piece by piece. An output that failed is handed nothing more.
+#![tactic(auto)]
+
 ghost use Rattle.std.specs.Prelude.{true, false, ◌≡◌, [], ◌+◌, length, get_or};
 ghost use Rattle.lines.specs.Pieces.{Next, line_pieces};
 ghost use Rattle.pieces.specs.Pieces.{word_bytes};
@@ -8,7 +10,7 @@ use lines::{Line, sizes};
 use pieces::{Piece, Word};
 
 // How many pieces of a line were handed to the output, and whether it took them all.
-#[derive(Drop)]
+#[derive(Clone, Copy)]
 pub struct Handed {
     pub pieces: usize,
     pub open: bool,

@@ -1,4 +1,6 @@
 // The run panel of a bench: the packs that a principal may run, and those that it may export.
+#![tactic(auto)]
+
 ghost use Rattle.std.specs.Prelude.{◌≡◌, ◌<◌, length};
 ghost use Rattle.sorts.specs.Numbers.{number_of, speakers, packs, all_marks};
 ghost use Rattle.answer.specs.Answers.{answer_at};
@@ -10,21 +12,21 @@ use bookform::Book;
 use sorts::{Concl, Pack, Prin, Refusal, Res};
 
 // The two rights over packs.
-#[derive(Drop)]
+#[derive(Clone, Copy)]
 pub enum PackRight {
     Run,
     Export,
 }
 
 // The panel is shown, or refused with a number.
-#[derive(Drop)]
+#[derive(Clone, Copy)]
 pub enum Said {
     Shown,
     Refused(u8),
 }
 
 // Bit n of a word is 1 where run, or export, of pack n is permitted. It is 0 where that is open.
-#[derive(Drop)]
+#[derive(Clone, Copy)]
 pub struct Panel {
     pub said: Said,
     pub run: u32,

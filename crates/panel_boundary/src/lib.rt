@@ -1,4 +1,6 @@
 // The panel of a journal and the preview buffer that it leaves, for programs in other languages: numbers and lent bytes alone cross.
+#![tactic(auto)]
+
 ghost use Rattle.std.specs.Prelude.{◌≡◌, ◌++◌, ◌/◌, ◌%◌, ◌<◌};
 ghost use Rattle.bookform.specs.Books.{fresh_marks};
 ghost use Rattle.panel.specs.Panels.{number_said};

@@ -1,4 +1,6 @@
 // The pieces in which lines are written, each at once, and those of numbers and nets.
+#![tactic(auto)]
+
 pub mod sizes;
 
 ghost use Rattle.std.specs.Prelude.{◌≡◌, [], ◌∷◌, ◌++◌, get_or};
@@ -10,7 +12,7 @@ use frames::Kind;
 use marks::Counts;
 
 // The words of lines, with the space and the line's end.
-#[derive(Drop)]
+#[derive(Clone, Copy)]
 pub enum Word {
     Space,
     Newline,
@@ -23,7 +25,7 @@ pub enum Word {
 }
 
 // A digit or a sign, the letters of a kind, a word, or nothing more.
-#[derive(Drop)]
+#[derive(Clone, Copy)]
 pub enum Piece {
     Byte(u8),
     Letters(Kind),

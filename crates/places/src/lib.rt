@@ -1,4 +1,6 @@
 // Where the records of a journal start, and how long a journal may be.
+#![tactic(auto)]
+
 ghost use Rattle.std.specs.Prelude.{◌≡◌, ◌≤◌, ltb};
 ghost use Rattle.places.specs.Places.{next_place};
 

@@ -1,4 +1,6 @@
 // One byte at a time: the lists and ranges of document 01, each in one place.
+#![tactic(auto)]
+
 ghost use Rattle.std.specs.Prelude.{◌≡◌};
 ghost use Rattle.ranges.specs.Bytes.{byte_at, declared, upto, principal, pack, tag, header};
 ghost use Rattle.ranges.specs.Inner.Answers.{as_byte, as_header};
@@ -9,7 +11,7 @@ use sorts::{Pack, Prin, Refusal, Row};
 const CONDITIONS: u8 = Row::CONDITIONS as u8;
 
 // A byte with the place after it, or the number of the refusal.
-#[derive(Drop)]
+#[derive(Clone, Copy)]
 pub enum Got {
     Byte(u8, usize),
     No(u8),
@@ -17,14 +19,14 @@ pub enum Got {
 
 // How many principal variables, which resource variable and how many conditions a grant has, with the place after these
 // three bytes; or the number of the refusal.
-#[derive(Drop)]
+#[derive(Clone, Copy)]
 pub enum HeaderOut {
     Got(Scope, u8, usize),
     No(u8),
 }
 
 // The variables that a grant declares: how many of principals, and the resource variable (0 none, 1 over grants, 2 over packs).
-#[derive(Drop)]
+#[derive(Clone, Copy)]
 pub struct Scope {
     pub prins: u8,
     pub res: u8,

@@ -1,2 +1,4 @@
 // The reader of records.
+#![tactic(auto)]
+
 pub mod records;

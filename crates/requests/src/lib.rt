@@ -1,4 +1,6 @@
 // What was read of a record, done.
+#![tactic(auto)]
+
 ghost use Rattle.std.specs.Prelude.{◌≡◌};
 ghost use Rattle.renewing.specs.Inner.Buffers.{firm_marks, both_marks};
 ghost use Rattle.requests.specs.Inner.Apply.{Ready, applied, marks_applied, preview_applied};

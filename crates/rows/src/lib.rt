@@ -1,4 +1,6 @@
 // The grant table: the rows by number, looking a row up, and giving a new row the lowest number not given.
+#![tactic(auto)]
+
 ghost use Rattle.std.specs.Prelude.{◌≡◌, ◌≤◌, ◌<◌};
 ghost use Rattle.sorts.specs.Numbers.{grants};
 ghost use Rattle.rows.specs.Inner.Lookup.{same_res, same_concl, same_cond, same_row, find_row, entered};
@@ -6,21 +8,21 @@ ghost use Rattle.rows.specs.Inner.Lookup.{same_res, same_concl, same_cond, same_
 use sorts::{Concl, Cond, GrantNo, Res, Row};
 
 // The book's rows and the count of the numbers given.
-#[derive(Drop)]
+#[derive(Clone, Copy)]
 pub struct Table {
     pub rows: [Row; Table::ROWS],
     pub count: usize,
 }
 
 // A table while a record's grants are numbered; `full` where a grant found no number left.
-#[derive(Drop)]
+#[derive(Clone, Copy)]
 pub struct Numbering {
     pub table: Table,
     pub full: bool,
 }
 
 // A numbering with a row in it, and the row's number.
-#[derive(Drop)]
+#[derive(Clone, Copy)]
 pub struct Entered {
     pub numbering: Numbering,
     pub no: GrantNo,

@@ -1,5 +1,7 @@
 // Rows as words, so that they are compared by numbers: of two parts of rows the one that comes first in the order of bytes has
 // the smaller key, and below a word's key stands which inner grant the part has.
+#![tactic(auto)]
+
 ghost use Rattle.std.specs.Prelude.{◌≡◌, ℕ, ◌+◌, ◌*◌, ◌<◌, get_or};
 ghost use Rattle.rowwords.specs.Words.{res_word, concl_word, cond_word, row_word};
 

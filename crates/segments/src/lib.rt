@@ -1,4 +1,6 @@
 // Segments of bytes that stand one after the other in a buffer: compared, and turned.
+#![tactic(auto)]
+
 ghost use Rattle.std.specs.Prelude.{◌∷◌, ◌++◌, ◌≡◌, ◌+◌, ◌≤◌, ◌<◌, length, get_or, set, take, drop};
 ghost use Rattle.sorts.specs.Numbers.{conditions};
 ghost use Rattle.canon.specs.Canon.{order};
@@ -8,7 +10,7 @@ ghost use Rattle.segments.specs.Inner.Ranges.{swapped, reversed, side_of, sum};
 use sorts::Row;
 
 // How a segment stands to another.
-#[derive(Drop)]
+#[derive(Clone, Copy)]
 pub enum Side {
     Below,
     Same,
@@ -16,7 +18,7 @@ pub enum Side {
 }
 
 // Where a segment stands among others: it is there, or it comes before the one of a number, at that one's place.
-#[derive(Drop)]
+#[derive(Clone, Copy)]
 pub enum Seat {
     There,
     Before(usize, usize),
