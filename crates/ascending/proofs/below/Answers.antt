@@ -6,28 +6,6 @@ use Rattle.ascending.specs.Inner.Words.{Inside}
 use Rattle.ascending.proofs.Comparing.{same_keys, keys_decide}
 use Rattle.ascending.proofs.below.Goals as goal
 
-sub-x c = let o : Inside true c.before.before.loop.a c.before.before.loop.b = rw c.if1.true at c.before.inside.ensures in let l = c.before.before.before.before.before.before.requires.1.long in omega arith
-
-mul-x c = let o : Inside true c.before.before.loop.a c.before.before.loop.b = rw c.if1.true at c.before.inside.ensures in let l = c.before.before.before.before.before.before.requires.1.long in omega arith
-
-sub-y c = let o : Inside true c.before.before.loop.a c.before.before.loop.b = rw c.if1.true at c.before.inside.ensures in let l = c.before.before.before.before.before.before.requires.1.long in omega arith
-
-mul-y c = let o : Inside true c.before.before.loop.a c.before.before.loop.b = rw c.if1.true at c.before.inside.ensures in let l = c.before.before.before.before.before.before.requires.1.long in omega arith
-
-first-apart-requires c κs = let o : Inside true c.before.before.loop.a c.before.before.loop.b = rw c.if1.true at c.before.inside.ensures in let l = c.before.before.before.before.before.before.requires.1.long in (omega arith, omega arith)
-
-add-a-2 c = let o : Inside true c.before.before.before.loop.a c.before.before.before.loop.b = rw c.before.if1.true at c.before.before.inside.ensures in let l = c.before.before.before.before.before.before.before.requires.1.long in omega arith
-
-mul-a-2 c = let o : Inside true c.before.before.before.loop.a c.before.before.before.loop.b = rw c.before.if1.true at c.before.before.inside.ensures in let l = c.before.before.before.before.before.before.before.requires.1.long in omega arith
-
-shared-slice-read-a-2 c = let o : Inside true c.before.before.before.before.loop.a c.before.before.before.before.loop.b = rw c.before.before.if1.true at c.before.before.before.inside.ensures in let l = c.before.before.before.before.before.before.before.before.requires.1.long in omega arith
-
-add-b-2 c = let o : Inside true c.before.before.before.before.loop.a c.before.before.before.before.loop.b = rw c.before.before.if1.true at c.before.before.before.inside.ensures in let l = c.before.before.before.before.before.before.before.before.requires.1.long in omega arith
-
-mul-b-2 c = let o : Inside true c.before.before.before.before.loop.a c.before.before.before.before.loop.b = rw c.before.before.if1.true at c.before.before.before.inside.ensures in let l = c.before.before.before.before.before.before.before.before.requires.1.long in omega arith
-
-shared-slice-read-b-2 c = let o : Inside true c.before.before.before.before.before.loop.a c.before.before.before.before.before.loop.b = rw c.before.before.before.if1.true at c.before.before.before.before.inside.ensures in let l = c.before.before.before.before.before.before.before.before.before.requires.1.long in omega arith
-
 pub overflow_mul-at : goal.overflow_mul-at
 overflow_mul-at c = (let l = c.requires.1.long in omega arith)
 
@@ -58,37 +36,37 @@ loop-a-init c =     let one : 6 * c.args.i + c.args.j + 1 ≡ 6 * c.args.i + (c.
     (rw one (c.requires.1.lower c.args.i (c.args.j + 1) (omega arith) (omega arith)), rw two (c.requires.1.lower c.args.i (c.args.j + 2) (omega arith) (omega arith)), λ f h. refl)
 
 pub overflow_sub-x : goal.overflow_sub-x
-overflow_sub-x c = 
+overflow_sub-x c = let o : Inside true c.loop-a.a c.loop-a.b = rw c.loop-a-test.true at c.inside.ensures in let l = c.requires.1.long in omega arith
 
 pub overflow_mul-x : goal.overflow_mul-x
-overflow_mul-x c = 
+overflow_mul-x c = let o : Inside true c.loop-a.a c.loop-a.b = rw c.loop-a-test.true at c.inside.ensures in let l = c.requires.1.long in omega arith
 
 pub overflow_sub-y : goal.overflow_sub-y
-overflow_sub-y c = 
+overflow_sub-y c = let o : Inside true c.loop-a.a c.loop-a.b = rw c.loop-a-test.true at c.inside.ensures in let l = c.requires.1.long in omega arith
 
 pub overflow_mul-y : goal.overflow_mul-y
-overflow_mul-y c = 
+overflow_mul-y c = let o : Inside true c.loop-a.a c.loop-a.b = rw c.loop-a-test.true at c.inside.ensures in let l = c.requires.1.long in omega arith
 
 pub first_apart-k-requires : goal.first_apart-k-requires
-first_apart-k-requires c = 
+first_apart-k-requires c = let o : Inside true c.loop-a.a c.loop-a.b = rw c.loop-a-test.true at c.inside.ensures in let l = c.requires.1.long in (omega arith, omega arith)
 
 pub overflow_add-a-in-loop-a : goal.overflow_add-a-in-loop-a
-overflow_add-a-in-loop-a c = 
+overflow_add-a-in-loop-a c = let o : Inside true c.loop-a.a c.loop-a.b = rw c.loop-a-test.true at c.inside.ensures in let l = c.requires.1.long in omega arith
 
 pub offset_bounds-words-x : goal.offset_bounds-words-x
-offset_bounds-words-x c = 
+offset_bounds-words-x c = let o : Inside true c.loop-a.a c.loop-a.b = rw c.loop-a-test.true at c.inside.ensures in let l = c.requires.1.long in omega arith
 
 pub bounds-words-x : goal.bounds-words-x
-bounds-words-x c = 
+bounds-words-x c = let o : Inside true c.loop-a.a c.loop-a.b = rw c.loop-a-test.true at c.inside.ensures in let l = c.requires.1.long in omega arith
 
 pub overflow_add-b-in-loop-a : goal.overflow_add-b-in-loop-a
-overflow_add-b-in-loop-a c = 
+overflow_add-b-in-loop-a c = let o : Inside true c.loop-a.a c.loop-a.b = rw c.loop-a-test.true at c.inside.ensures in let l = c.requires.1.long in omega arith
 
 pub offset_bounds-words-y : goal.offset_bounds-words-y
-offset_bounds-words-y c = 
+offset_bounds-words-y c = let o : Inside true c.loop-a.a c.loop-a.b = rw c.loop-a-test.true at c.inside.ensures in let l = c.requires.1.long in omega arith
 
 pub bounds-words-y : goal.bounds-words-y
-bounds-words-y c = 
+bounds-words-y c = let o : Inside true c.loop-a.a c.loop-a.b = rw c.loop-a-test.true at c.inside.ensures in let l = c.requires.1.long in omega arith
 
 pub loop-a-smaller : goal.loop-a-smaller
 loop-a-smaller c =     let o : Inside true c.loop-a.a c.loop-a.b = rw c.loop-a-test.true at c.inside.ensures in

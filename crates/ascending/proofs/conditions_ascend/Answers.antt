@@ -26,12 +26,12 @@ row_ascends-requires c =     let i = c.loop-i.i in
     let e = c.loop-i.invariant.0 in
     let n = c.requires.count in
     let p = c.put.ensures.long in
-    ((c.requires.used i l).count, laid c.args.t c.requires c.put.new.0 (i + 1) (omega arith) (worded_more c.loop-i.words c.put.new.0 c.row_words-w.result c.args.t.rows i c.loop-i.invariant.1 c.row_words-w.ensures c.put.ensures) (omega arith))
+    ((c.requires.used i l).count, laid c.args.t c.requires c.put.new.words (i + 1) (omega arith) (worded_more c.loop-i.words c.put.new.words c.row_words-w.result c.args.t.rows i c.loop-i.invariant.1 c.row_words-w.ensures c.put.ensures) (omega arith))
 
 pub returns-then-not-row_ascends : goal.returns-then-not-row_ascends
 returns-then-not-row_ascends c =     let i = c.loop-i.i in
     let t = c.args.t in
-    let words = c.put.new.0 in
+    let words = c.put.new.words in
     let l : i < t.count = c.loop-i-test.true in
     let w = worded_more c.loop-i.words words c.row_words-w.result t.rows i c.loop-i.invariant.1 c.row_words-w.ensures c.put.ensures in
     let r = c.row_ascends.result in
@@ -41,7 +41,7 @@ returns-then-not-row_ascends c =     let i = c.loop-i.i in
 pub loop-i-preserved : goal.loop-i-preserved
 loop-i-preserved c =     let i = c.loop-i.i in
     let t = c.args.t in
-    let words = c.put.new.0 in
+    let words = c.put.new.words in
     let l : i < t.count = c.loop-i-test.true in
     let w = worded_more c.loop-i.words words c.row_words-w.result t.rows i c.loop-i.invariant.1 c.row_words-w.ensures c.put.ensures in
     let r = c.row_ascends.result in

@@ -10,16 +10,13 @@ pub loop-k-init : goal.loop-k-init
 loop-k-init c = (search rules, put_none c.args.words.now c.args.at c.args.w)
 
 pub overflow_add-words : goal.overflow_add-words
-overflow_add-words c = let l = c.requires in omega arith
+overflow_add-words c = omega arith
 
 pub bounds-words-at : goal.bounds-words-at
-bounds-words-at c = let l = c.loop-k.invariant.1.long in let m = c.requires in omega arith
+bounds-words-at c = let l = c.loop-k.invariant.1.long in omega arith
 
 pub loop-k-preserved : goal.loop-k-preserved
-loop-k-preserved c = let m = c.requires in (omega arith, put_next c.args.words.now c.args.at c.args.w c.loop-k.k c.loop-k.words c.loop-k.invariant.1 (omega arith))
-
-pub shape_of-words : goal.shape_of-words
-shape_of-words c = c.loop-k.invariant.1.long
+loop-k-preserved c = (omega arith, put_next c.args.words.now c.args.at c.args.w c.loop-k.k c.loop-k.words c.loop-k.invariant.1 (omega arith))
 
 pub returns : goal.returns
 returns c = let l = c.loop-k-test.false in let m = c.loop-k.invariant.0 in let e : c.loop-k.k ≡ 6 = omega arith in subst (λ (n : ℕ). Put c.args.words.now c.args.at c.args.w n c.loop-k.words) e c.loop-k.invariant.1

@@ -3,7 +3,7 @@ use Rattle.ascending.specs.Inner.Words.{Put}
 use Rattle.ascending.proofs.put.Given as goal
 
 abbrev pub invariant-loop-k : goal.invariant-loop-k
-invariant-loop-k l = (l.k ≤ 6) × Put l.at l.w l.initial.words l.k l.words
+invariant-loop-k l = (l.k ≤ 6) × Put l.initial.words l.at l.w l.k l.words
 
 abbrev pub decreases-loop-k : goal.decreases-loop-k
 decreases-loop-k l = 6 - l.k
