@@ -9,4 +9,4 @@ pub returns-in-128 : goal.returns-in-128
 returns-in-128 c = grant_any c.args.i c.args.res c.args.g c.if-n-i.false c.in-128.is
 
 pub returns-in_default : goal.returns-in_default
-returns-in_default c = grant_other c.args.i c.args.res c.args.g c.if-n-i.false c.in_default.rest.1
+returns-in_default c = grant_other c.args.i c.args.res c.args.g c.if-n-i.false c.in_default.in_default-own.rest.1

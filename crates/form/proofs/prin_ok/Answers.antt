@@ -8,4 +8,4 @@ pub returns-in-129 : goal.returns-in-129
 returns-in-129 c = prin_second c.args.prins c.args.p c.in-129.is
 
 pub returns-in_default : goal.returns-in_default
-returns-in_default c = prin_other c.args.prins c.args.p c.in_default.rest.0.1 c.in_default.rest.1
+returns-in_default c = prin_other c.args.prins c.args.p c.in_default.in_default-own.rest.0.1 c.in_default.in_default-own.rest.1
