@@ -31,7 +31,7 @@ pub bounds-words-at-2 : goal.bounds-words-at-2
 bounds-words-at-2 c = (let l = c.requires.1.long in omega arith)
 
 pub loop-a-init : goal.loop-a-init
-loop-a-init c =     let one : 6 * c.args.i + c.args.j + 1 ≡ 6 * c.args.i + (c.args.j + 1) = omega arith in
+loop-a-init c = let one : 6 * c.args.i + c.args.j + 1 ≡ 6 * c.args.i + (c.args.j + 1) = omega arith in
     let two : 6 * c.args.i + c.args.j + 2 ≡ 6 * c.args.i + (c.args.j + 2) = omega arith in
     (rw one (c.requires.1.lower c.args.i (c.args.j + 1) (omega arith) (omega arith)), rw two (c.requires.1.lower c.args.i (c.args.j + 2) (omega arith) (omega arith)), λ f h. refl)
 
@@ -69,11 +69,11 @@ pub bounds-words-y : goal.bounds-words-y
 bounds-words-y c = let o : Inside true c.loop-a.a c.loop-a.b = rw c.loop-a-test.true at c.inside.ensures in let l = c.requires.1.long in omega arith
 
 pub loop-a-smaller : goal.loop-a-smaller
-loop-a-smaller c =     let o : Inside true c.loop-a.a c.loop-a.b = rw c.loop-a-test.true at c.inside.ensures in
+loop-a-smaller c = let o : Inside true c.loop-a.a c.loop-a.b = rw c.loop-a-test.true at c.inside.ensures in
     let x = c.requires.1.lower (c.loop-a.a % 256 - 1) c.first_apart-k.result (omega arith) c.first_apart-k.ensures.inside in omega arith
 
 pub loop-a-preserved : goal.loop-a-preserved
-loop-a-preserved c =     let o : Inside true c.loop-a.a c.loop-a.b = rw c.loop-a-test.true at c.inside.ensures in
+loop-a-preserved c = let o : Inside true c.loop-a.a c.loop-a.b = rw c.loop-a-test.true at c.inside.ensures in
     let g = c.loop-a.a % 256 in
     let h = c.loop-a.b % 256 in
     let k = c.first_apart-k.result in

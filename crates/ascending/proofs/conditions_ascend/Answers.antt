@@ -21,7 +21,7 @@ pub put-requires : goal.put-requires
 put-requires c = let l = c.loop-i-test.true in let e = c.loop-i.invariant.0 in let n = c.requires.count in omega arith
 
 pub row_ascends-requires : goal.row_ascends-requires
-row_ascends-requires c =     let i = c.loop-i.i in
+row_ascends-requires c = let i = c.loop-i.i in
     let l = c.loop-i-test.true in
     let e = c.loop-i.invariant.0 in
     let n = c.requires.count in
@@ -29,7 +29,7 @@ row_ascends-requires c =     let i = c.loop-i.i in
     ((c.requires.used i l).count, laid c.args.t c.requires c.put.new.words (i + 1) (omega arith) (worded_more c.loop-i.words c.put.new.words c.row_words-w.result c.args.t.rows i c.loop-i.invariant.1 c.row_words-w.ensures c.put.ensures) (omega arith))
 
 pub returns-then-not-row_ascends : goal.returns-then-not-row_ascends
-returns-then-not-row_ascends c =     let i = c.loop-i.i in
+returns-then-not-row_ascends c = let i = c.loop-i.i in
     let t = c.args.t in
     let words = c.put.new.words in
     let l : i < t.count = c.loop-i-test.true in
@@ -39,7 +39,7 @@ returns-then-not-row_ascends c =     let i = c.loop-i.i in
     λ h. (rw c.if-not-row_ascends.true at d) (canonical_ascending t c.requires h i l)
 
 pub loop-i-preserved : goal.loop-i-preserved
-loop-i-preserved c =     let i = c.loop-i.i in
+loop-i-preserved c = let i = c.loop-i.i in
     let t = c.args.t in
     let words = c.put.new.words in
     let l : i < t.count = c.loop-i-test.true in

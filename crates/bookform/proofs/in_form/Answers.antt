@@ -38,7 +38,7 @@ pub apart-requires : goal.apart-requires
 apart-requires c = ((decided_yes (TableForm c.args.b.table) c.table_in_form.result (not_from_true _ c.if-not-table_in_form.false) c.table_in_form.ensures).count, decided_yes (Unflagged c.args.b.flags c.args.b.table.count) c.zero_from.result (not_from_true _ c.if-not-zero_from.false) c.zero_from.ensures)
 
 pub returns : goal.returns
-returns c =     decides_as (FlagsApart c.args.b.flags) (BookForm c.args.b c.args.marks.now c.args.second.now) c.apart.result
+returns c = decides_as (FlagsApart c.args.b.flags) (BookForm c.args.b c.args.marks.now c.args.second.now) c.apart.result
     (λ z. record {
       marks = decided_yes (MarksForm c.args.marks.now) c.marks_ok.result (not_from_true _ c.if-not-marks_ok.false) c.marks_ok.ensures;
       second = decided_yes (MarksForm c.args.second.now) c.marks_ok-2.result (not_from_true _ c.if-not-marks_ok-2.false) c.marks_ok-2.ensures;

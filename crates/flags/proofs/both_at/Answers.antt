@@ -11,6 +11,6 @@ pub returns-then-j-ge-FIRM : goal.returns-then-j-ge-FIRM
 returns-then-j-ge-FIRM c = sym (other_at c.args.flags.now c.args.i (inr (omega (arith, c.if-j-ge-FIRM.true))))
 
 pub returns : goal.returns
-returns c =     let a = c.args in
+returns c = let a = c.args in
     c.larger.ensures
     ∙ sym (issuer_at a.flags.now a.i (omega (arith, c.if-j-eq0.false)) (omega (arith, c.if-j-ge-FIRM.false)))

@@ -20,7 +20,7 @@ pub returns-then-not-used_conds_ok : goal.returns-then-not-used_conds_ok
 returns-then-not-used_conds_ok c = λ f. (rw c.if-not-used_conds_ok.true at c.used_conds_ok.ensures) f.used
 
 pub returns : goal.returns
-returns c =     row_decides c.args.i c.args.x c.unused_conds_ok.result c.if-x-gt2.false c.if-x-gt2-2.false c.if-x-gt-CONDITIONS.false (search (rules, length_mapped))
+returns c = row_decides c.args.i c.args.x c.unused_conds_ok.result c.if-x-gt2.false c.if-x-gt2-2.false c.if-x-gt-CONDITIONS.false (search (rules, length_mapped))
     (rw c.if-not-used_conds_ok.false at c.used_conds_ok.ensures)
     (rw c.if-not-concl_ok.false at c.concl_ok.ensures)
     c.unused_conds_ok.ensures

@@ -20,7 +20,7 @@ pub depths_ok-requires : goal.depths_ok-requires
 depths_ok-requires c = (c.if-t-gt-ROWS.false, rw c.if-not-used_rows_ok.false at c.used_rows_ok.ensures)
 
 pub returns : goal.returns
-returns c =     table_decides c.args.t c.depths_ok.result (search (rules, length_mapped)) c.if-t-gt-ROWS.false
+returns c = table_decides c.args.t c.depths_ok.result (search (rules, length_mapped)) c.if-t-gt-ROWS.false
     (rw c.if-not-used_rows_ok.false at c.used_rows_ok.ensures)
     (rw c.if-not-unused_rows_ok.false at c.unused_rows_ok.ensures)
     (rw c.if-not-distinct_rows.false at c.distinct_rows.ensures)

@@ -6,4 +6,4 @@ pub returns-in-No : goal.returns-in-No
 returns-in-No c = frame_no _ _ (sym c.read_mark.ensures ∙ c.in-No.is)
 
 pub returns-in-Got : goal.returns-in-Got
-returns-in-Got c =     frame_opens _ _ _ c.read_length.result (sym c.read_mark.ensures ∙ c.in-Got.is) c.read_length.ensures
+returns-in-Got c = frame_opens _ _ _ c.read_length.result (sym c.read_mark.ensures ∙ c.in-Got.is) c.read_length.ensures

@@ -10,7 +10,7 @@ pub overflow_sub-d : goal.overflow_sub-d
 overflow_sub-d c = omega arith
 
 pub loop-d-init : goal.loop-d-init
-loop-d-init c =     (omega arith, omega arith, turning_starts c.args.out.now c.args.a c.args.e (omega arith) (omega arith), refl)
+loop-d-init c = (omega arith, omega arith, turning_starts c.args.out.now c.args.a c.args.e (omega arith) (omega arith), refl)
 
 pub overflow_sub-j : goal.overflow_sub-j
 overflow_sub-j c = omega arith
@@ -28,12 +28,12 @@ pub loop-d-smaller : goal.loop-d-smaller
 loop-d-smaller c = omega arith
 
 pub loop-d-preserved : goal.loop-d-preserved
-loop-d-preserved c =     (
-      omega arith,
-      omega arith,
-      rw c.swap.ensures (turning_on c.loop-d.out (reversed c.args.a c.args.e c.args.out.now) c.loop-d.i (c.loop-d.j - 1) c.loop-d.d c.loop-d.invariant.2 (omega arith) (omega arith)),
-      ap length c.swap.ensures ∙ length_swapped c.loop-d.i (c.loop-d.j - 1) c.loop-d.out ∙ c.loop-d.invariant.3,
-    )
+loop-d-preserved c = (
+  omega arith,
+  omega arith,
+  rw c.swap.ensures (turning_on c.loop-d.out (reversed c.args.a c.args.e c.args.out.now) c.loop-d.i (c.loop-d.j - 1) c.loop-d.d c.loop-d.invariant.2 (omega arith) (omega arith)),
+  ap length c.swap.ensures ∙ length_swapped c.loop-d.i (c.loop-d.j - 1) c.loop-d.out ∙ c.loop-d.invariant.3,
+)
 
 pub returns : goal.returns
-returns c =     turning_ends c.loop-d.out (reversed c.args.a c.args.e c.args.out.now) c.loop-d.i c.loop-d.d c.loop-d.invariant.2 (omega arith)
+returns c = turning_ends c.loop-d.out (reversed c.args.a c.args.e c.args.out.now) c.loop-d.i c.loop-d.d c.loop-d.invariant.2 (omega arith)

@@ -9,7 +9,7 @@ pub returns-then-t-gt-ROWS : goal.returns-then-t-gt-ROWS
 returns-then-t-gt-ROWS c = reads_over _ _ _ c.if-t-gt-ROWS.true c.refused.ensures
 
 pub read_framed-requires : goal.read_framed-requires
-read_framed-requires c =     let h = content_there _ _ _ _ c.read_frame.ensures c.in-Got.is in
+read_framed-requires c = let h = content_there _ _ _ _ c.read_frame.ensures c.in-Got.is in
     (search rules, h.0, h.1)
 
 pub returns-in-No : goal.returns-in-No
