@@ -11,7 +11,7 @@ use native.Mathlib.Numerals.{add-one}
 use lib.ListN.{length, get_or}
 use lib.Dec.{ltb}
 use borrow.Author.Tests.{ltb-true, ltb-false, lt-ltb}
-use Rattle.sorts.specs.Numbers.{grants, conditions}
+use Rattle.sorts.specs.Numbers.{grants}
 use Rattle.sorts.specs.declared.Row.{Row}
 use Rattle.sorts.specs.Blank.{blank_cond, no_row}
 use Rattle.sorts.specs.RowForm.{ConclForm, CondForm, RowForm}

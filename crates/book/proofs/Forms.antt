@@ -9,8 +9,6 @@ use native.Mathlib.Decide.{dec_lt}
 use lib.ListN.{length, get_or, replicate, length-replicate, get_or-replicate, get_or-eq_default}
 use lib.Seq.{get_or-append_seam}
 use borrow.Author.Tests.{leb-true}
-use Rattle.sorts.specs.declared.Res as r
-use Rattle.sorts.specs.declared.Concl as rc
 use Rattle.sorts.specs.declared.Cond.{Cond}
 use Rattle.sorts.specs.declared.Status.{Status}
 use Rattle.sorts.specs.Flags.{StatusRange, FirmRange}

@@ -7,7 +7,6 @@ use native.Mathlib.Omega.{arith}
 use native.Mathlib.Decide.{dec_lt}
 use lib.ListN.{length, get_or, get_or-append}
 use Rattle.sorts.specs.declared.Status.{Status}
-use Rattle.sorts.specs.Numbers.{grants}
 use Rattle.sorts.specs.Flags.{StatusRange, row_flags, all_flags, flag_place}
 use Rattle.sorts.proofs.Flags.{place_from}
 use Rattle.rows.specs.declared.Table.{Table}

@@ -16,7 +16,7 @@ use Rattle.sorts.specs.declared.Concl.TheVariants.{Property, Perm}
 use Rattle.sorts.specs.declared.Cond.{Cond}
 use Rattle.sorts.specs.declared.Row.{Row}
 use Rattle.sorts.specs.Blank.{blank_cond}
-use Rattle.rows.specs.Written.{Grant, Concl, grant, issue, issue_any, run, export, how_many, kind_of}
+use Rattle.rows.specs.Written.{Grant, issue, issue_any, run, export, how_many, kind_of}
 use Rattle.sorts.specs.RowForm.{ResForm, ConclForm, CondForm, RowForm}
 use Rattle.rows.specs.Form.{no_grant, write_res, write_concl, write_conds, write_row}
 use Rattle.canon.specs.Canon.{and_then, order_cond, Canonical, CanonicalConds, CanonicalConcl, CanonicalRight}

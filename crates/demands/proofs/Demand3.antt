@@ -11,7 +11,7 @@ use Rattle.ranges.specs.Bytes.{Outcome, got, refused}
 use Rattle.contents.specs.Records.{Record, enter, remove, confirm, preview, query}
 use Rattle.reader.specs.Records.{read_canonical}
 use Rattle.rules.specs.Standing.{In}
-use Rattle.machine.specs.Machine.{State, Step, start, step, feed}
+use Rattle.machine.specs.Machine.{State, Step, step, feed}
 use Rattle.machine.specs.Closed.{Stands}
 use Rattle.marks.specs.Counts.{Statements, truths, sayings, ones, marks_of}
 use Rattle.bookform.specs.declared.Book.{Book}

@@ -12,7 +12,7 @@ use borrow.Author.Tests.{eq-eqb, ne_eqb}
 use Rattle.marks.specs.declared.Counts.{Counts}
 use Rattle.sorts.specs.declared.Status.TheVariants.{Trusted, Issued, Provisional}
 use Rattle.sorts.specs.Numbers.{all_marks}
-use Rattle.sorts.specs.Flags.{all_flags, flag_place, flag}
+use Rattle.sorts.specs.Flags.{all_flags, flag_place}
 use Rattle.rows.specs.Form.{rows_out}
 use Rattle.rows.proofs.Shown.{blank_shown, shown_form}
 use Rattle.rows.proofs.Bytes.{no_true}

@@ -4,17 +4,16 @@ use mathlib.Core.Path.{◌≡◌, refl, sym, ap, subst, ◌∙◌}
 use mathlib.Core.Bool.{Bool, true, false, cond}
 use mathlib.Core.List.{List, [], ◌∷◌, ◌++◌}
 use lib.Dec.{eqb, leb}
-use lib.ListN.{length, take, drop}
+use lib.ListN.{length, take}
 use Rattle.sorts.specs.declared.Prin.{Prin}
 use Rattle.sorts.specs.declared.Status.TheVariants.{Issued}
 use Rattle.sorts.specs.Numbers.{speakers, depths}
 use Rattle.rows.specs.Written.{Grant}
-use Rattle.frames.specs.declared.Kind.{Kind}
 use Rattle.frames.specs.declared.Kind.TheVariants.{Wd, Pv}
 use Rattle.ranges.specs.Bytes.{Outcome, got, refused, and_then, upto}
 use Rattle.canon.specs.Canon.{canon}
 use Rattle.grants.specs.Grants.{read_grant}
-use Rattle.frames.specs.Frames.{letters_of, stated, Frame, holds, ends, sized, frame, frame_length, extent}
+use Rattle.frames.specs.Frames.{letters_of, stated, Frame, holds, ends, sized, frame_length, extent}
 use Rattle.contents.specs.Records.{Record, enter, remove, confirm, preview, query, read_entry, read_licence, read_content, canon_record}
 use Rattle.reader.specs.Records.{fitted, read_whole, framed, read_record, read_canonical}
 use Rattle.exact.proofs.Framing.{letters_frame}

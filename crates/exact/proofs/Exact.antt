@@ -12,12 +12,12 @@ use Rattle.frames.specs.declared.Kind.{Kind}
 use Rattle.sorts.specs.declared.Status.TheVariants.{Trusted, Issued, Provisional}
 use Rattle.sorts.specs.Numbers.{depths}
 use Rattle.ranges.specs.Bytes.{Outcome, got, refused, and_then}
-use Rattle.frames.specs.Frames.{letters_of, stated, Frame, holds, ends, frame, extent}
+use Rattle.frames.specs.Frames.{letters_of, Frame, holds, ends, frame, extent}
 use Rattle.contents.specs.Records.{Record, enter, remove, confirm, preview, query, read_content}
 use Rattle.reader.specs.Records.{fitted, read_whole, framed, read_record}
 use Rattle.canon.proofs.Size as size
 use Rattle.exact.specs.Writing.{kind_of, content_of, in_frame, written_record, AllowedRecord, Bytes}
-use Rattle.exact.proofs.Framing.{Opens, frame_opens, in_frame_lem, in_frame_length, extent_holds}
+use Rattle.exact.proofs.Framing.{frame_opens, in_frame_lem, in_frame_length, extent_holds}
 use Rattle.exact.proofs.Contents.{content_found, whole_written}
 
 -- reading a record that was written gives it back, whatever follows

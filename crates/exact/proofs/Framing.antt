@@ -1,8 +1,8 @@
 -- A frame has its bytes, and these bytes have that frame, whatever follows.
-use Prim.Native.Nat.{ℕ, ◌+◌, ◌-◌, ◌*◌, ◌/◌, ◌%◌, ◌≤◌, ◌<◌}
-use mathlib.Core.Path.{◌≡◌, refl, sym, ap, subst, ◌∙◌}
+use Prim.Native.Nat.{ℕ, ◌+◌, ◌/◌, ◌%◌, ◌≤◌}
+use mathlib.Core.Path.{◌≡◌, refl, sym, ap, ◌∙◌}
 use mathlib.Core.Bool.{Bool, true, false, cond}
-use mathlib.Core.List.{List, [], ◌∷◌, ◌++◌, append_assoc}
+use mathlib.Core.List.{List, [], ◌∷◌, ◌++◌}
 use mathlib.Core.Logic.{◌⊎◌, inl, inr}
 use native.Mathlib.Omega.{arith}
 use lib.ListN.{length, take, drop, length-append, take-append-drop}
@@ -11,7 +11,7 @@ use lib.Dec.{leb}
 use borrow.Author.Tests.{leb-true, le-leb}
 use Rattle.frames.specs.declared.Kind.{Kind}
 use Rattle.ranges.specs.Bytes.{Outcome, got, refused}
-use Rattle.frames.specs.Frames.{letters_of, kinds, kind_with, read_mark, stated, Frame, holds, ends, sized, marked, frame, frame_length, extent}
+use Rattle.frames.specs.Frames.{letters_of, kinds, kind_with, stated, Frame, holds, ends, sized, marked, frame, frame_length, extent}
 use Rattle.exact.specs.Writing.{in_frame}
 use Rattle.frames.proofs.Letters.{first, second, two_letters, kind_again, kind_letters, kind_none, letters_read, mark_none, mark_one}
 

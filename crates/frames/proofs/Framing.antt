@@ -5,16 +5,15 @@ use mathlib.Core.Bool.{Bool, true, false, cond}
 use mathlib.Core.List.{List, [], ◌∷◌}
 use mathlib.Core.Logic.{◌⊎◌, inl, inr}
 use native.Mathlib.Omega.{arith}
-use lib.ListN.{length, get_or, take, drop, length-drop}
-use lib.Seq.{length-take-le}
-use lib.Dec.{ltb, eqb}
+use lib.ListN.{length, get_or, take, drop}
+use lib.Dec.{ltb}
 use borrow.Author.Tests.{le-leb, lt-leb}
 use Rattle.frames.specs.declared.Kind.{Kind}
 use Rattle.frames.specs.declared.FrameOut.{FrameOut}
 use Rattle.frames.specs.declared.FrameOut.TheVariants as opening
 use Rattle.ranges.specs.Bytes.{Outcome, got, refused, and_then, byte_at}
 use Rattle.frames.specs.declared.MarkOut.TheVariants as mark
-use Rattle.frames.specs.Frames.{kinds, opens, kind_with, read_mark, stated, Frame, holds, ends, sized, marked, frame}
+use Rattle.frames.specs.Frames.{kinds, opens, kind_with, read_mark, stated, holds, ends, sized, marked, frame}
 use Rattle.frames.specs.Inner.Told.{as_mark, longest, Opens}
 use Rattle.frames.proofs.Marks.{mark_got, mark_no}
 

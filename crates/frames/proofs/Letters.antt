@@ -9,7 +9,7 @@ use lib.Dec.{eqb}
 use borrow.Author.Tests.{eqb-true, lt-ltb}
 use Rattle.frames.specs.declared.Kind.{Kind}
 use Rattle.frames.specs.declared.Kind.TheVariants.{Tg, St, Li, Wd, Qu, Pl, Cf, Pv}
-use Rattle.ranges.specs.Bytes.{Outcome, got, refused, and_then, byte_at}
+use Rattle.ranges.specs.Bytes.{got, refused, byte_at}
 use Rattle.frames.specs.Frames.{letters_of, kinds, opens, kind_with, read_mark}
 
 -- The letters of a kind are two.

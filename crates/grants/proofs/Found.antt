@@ -9,7 +9,7 @@ use lib.ListN.{length}
 use lib.Dec.{ltb, leb, eqb}
 use borrow.Author.Tests.{ltb-true, leb-true, eqb-true, eqb-false}
 use Rattle.sorts.specs.Numbers.{conditions, packs, principals, properties}
-use Rattle.rows.specs.Written.{Grant, Conds, Concl, Right, grant, perm, issue, issue_any, run, export, how_many, kind_of, written, written_conds, written_concl, written_right}
+use Rattle.rows.specs.Written.{Grant, Conds, Concl, Right, perm, issue, issue_any, run, export, how_many, kind_of, written, written_conds, written_concl, written_right}
 use Rattle.rows.specs.Form.{larger, depth, depth_conds, depth_concl, depth_right}
 use Rattle.sorts.specs.RowForm.{PrinForm, PackForm}
 use Rattle.rows.specs.Allowed.{Allowed, AllowedConds, AllowedConcl, AllowedRight}

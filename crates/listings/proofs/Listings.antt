@@ -9,7 +9,6 @@ use Rattle.sorts.specs.Numbers.{all_marks}
 use Rattle.bookform.specs.declared.Book.{Book}
 use Rattle.machine.specs.Machine.{State, start}
 use Rattle.bookform.specs.Books.{Lent}
-use Rattle.book.specs.Chains as chains
 use Rattle.bookform.specs.Books.{fresh_book, fresh_marks}
 use Rattle.book.specs.Chains.{Call}
 use Rattle.demands.specs.Demands.{Demand3}

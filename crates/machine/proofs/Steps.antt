@@ -1,9 +1,8 @@
 -- A step of the machine: the bytes that it uses, what a refusal leaves, and that it rests on the record's frame alone.
 use Prim.Native.Nat.{ℕ, ◌≤◌}
-use mathlib.Core.Path.{◌≡◌, refl, sym, ap, ◌∙◌}
+use mathlib.Core.Path.{◌≡◌, refl, ap, ◌∙◌}
 use mathlib.Core.Bool.{Bool, true, false, cond}
 use mathlib.Core.List.{List}
-use mathlib.Core.Logic.{◌⊎◌, inl, inr}
 use native.Mathlib.Omega.{arith}
 use Rattle.sorts.specs.declared.Prin.{Prin}
 use Rattle.sorts.specs.declared.Status.TheVariants.{Issued, Provisional}
@@ -16,7 +15,7 @@ use Rattle.reader.specs.Records.{framed, read_record, read_canonical}
 use Rattle.contents.specs.Requests.{fits}
 use Rattle.exact.proofs.Exact.{record_extent}
 use Rattle.exact.proofs.CanonicalRecords.{canonical_got}
-use Rattle.machine.specs.Machine.{State, Step, Verdict, changes, previews, asks, refuses, refuse, act, acted, step, stands, there}
+use Rattle.machine.specs.Machine.{State, Step, changes, previews, asks, refuses, refuse, act, acted, step, stands, there}
 
 -- What a record that was read does: its bytes are used, and if it is refused, with 6 or 7, the state is as it was.
 pub record Acts (M : State) (n : ℕ) (x : Step) : Type 0 where

@@ -14,9 +14,8 @@ use Rattle.bookform.specs.Books.{fresh_book, fresh_marks}
 use Rattle.book.specs.Chains.{Call}
 use Rattle.demands.proofs.Reached.{fresh_shows}
 use Rattle.places.specs.Places.{rest_after}
-use Rattle.journal.specs.Lines.{end_of}
 use Rattle.journal.specs.Journals.{Calls, ended, then}
-use Rattle.listings.specs.Listings.{Listed, read, record_lines}
+use Rattle.listings.specs.Listings.{read}
 use Rattle.listings.proofs.Listings.{fresh_lent}
 use Rattle.omissions.specs.Omissions.{own_bytes, journal_of, Omitted, none, keep, omit, if_accepted, accepted, AcceptedAlone}
 use Rattle.omissions.proofs.Omitting.{omitted}

@@ -1,13 +1,12 @@
 -- Refused records left out of a journal: the others are answered as before.
-use Prim.Native.Nat.{ℕ, ◌+◌, ◌≤◌, ◌<◌}
+use Prim.Native.Nat.{ℕ, ◌<◌}
 use mathlib.Core.Path.{◌≡◌, refl, sym, ap, subst, ◌∙◌}
-use mathlib.Core.Bool.{Bool, true, false, cond}
 use mathlib.Core.List.{List, [], ◌∷◌, ◌++◌, append-nil}
 use mathlib.Core.Option.{some}
 use native.Mathlib.Omega.{arith}
-use lib.ListN.{length, take, drop, length-append}
+use lib.ListN.{length, take}
 use lib.Seq.{take_at, drop_at}
-use borrow.Author.Tests.{eq-eqb, ne_eqb}
+use borrow.Author.Tests.{ne_eqb}
 use Rattle.frames.specs.declared.Kind.{Kind}
 use Rattle.frames.specs.Frames.{Frame, holds, ends, frame, extent}
 use Rattle.exact.proofs.Framing.{frame_opens, opens_frame, extent_holds, extent_ends}
@@ -28,7 +27,7 @@ use Rattle.pieces.specs.Words.{permitted, open_word, not_permitted}
 use Rattle.journal.specs.Lines.{nets, said}
 use Rattle.journal.specs.Journals.{Calls, ended, then}
 use Rattle.listings.proofs.Ending.{left_long}
-use Rattle.omissions.specs.Omissions.{own_bytes, record_of, journal_of, Omitted, none, keep, omit, SameCall, AllSame, told, AsBefore}
+use Rattle.omissions.specs.Omissions.{own_bytes, journal_of, Omitted, none, keep, omit, told, AsBefore}
 
 -- a line says the same of records that start with the same letters
 said_same : (s t : List ℕ) (a : Answer) → take 2 s ≡ take 2 t → said s a ≡ said t a

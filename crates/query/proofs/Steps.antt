@@ -16,7 +16,7 @@ use Rattle.rows.specs.Written.{Grant}
 use Rattle.rows.specs.Numbering.{place, has}
 use Rattle.rows.specs.Form.{row_of}
 use Rattle.rows.proofs.Place.{place_at, place_is, has_lt}
-use Rattle.rules.specs.Rules.{granted, condition, issue_mark, first_values, second_values, resource_values}
+use Rattle.rules.specs.Rules.{granted, issue_mark, first_values, second_values, resource_values}
 use Rattle.rules.specs.Inner.Ranges.{RowRange, CondRange}
 use Rattle.rules.proofs.Ranges.{row_range}
 use Rattle.rules.proofs.Lists.{each_all, all_each, some_join}

@@ -1,5 +1,5 @@
 -- A whole record: its content, read in its frame.
-use Rattle.std.specs.Prelude.{ℕ, ◌+◌, cond, List, length, eqb}
+use Rattle.std.specs.Prelude.{ℕ, cond, List, length, eqb}
 use Rattle.ranges.specs.Bytes.{Outcome, got, refused, and_then}
 use Rattle.frames.specs.declared.Kind.{Kind}
 use Rattle.frames.specs.Frames.{Frame, holds, ends, frame, frame_length}

@@ -18,7 +18,7 @@ use Rattle.sorts.specs.declared.Cond.{Cond}
 use Rattle.sorts.specs.declared.Row.{Row}
 use Rattle.sorts.specs.Blank.{blank_cond}
 use Rattle.sorts.proofs.Marks.{prin_is, grant_is, pack_is}
-use Rattle.rows.specs.Written.{Grant, Concl, Right, grant, also, perm, issue, issue_any, run, export}
+use Rattle.rows.specs.Written.{Grant, Right, grant, also, perm, issue, issue_any, run, export}
 use Rattle.rows.specs.Form.{no_grant, write_res, write_concl, write_conds, write_row}
 use Rattle.sorts.specs.RowForm.{ConclForm, RowForm}
 use Rattle.rows.proofs.Place.{Distinct}

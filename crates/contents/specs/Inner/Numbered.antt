@@ -20,7 +20,7 @@ use Rattle.contents.specs.declared.Deed.TheVariants as deed
 use Rattle.contents.specs.declared.Found.{Found}
 use Rattle.contents.specs.declared.Found.TheVariants.{Asks, Full, Unknown, Refused}
 use Rattle.contents.specs.declared.Reading.{Reading}
-use Rattle.ranges.specs.Bytes.{Outcome, got, refused, upto}
+use Rattle.ranges.specs.Bytes.{upto}
 use Rattle.contents.specs.Records.{nothing_declared}
 use Rattle.grants.specs.Inner.OnePass.{on_outcome, on_grant, on_concl}
 use Rattle.canonread.specs.Inner.Again.{num_form, num_concl_form}

@@ -1,7 +1,6 @@
 use native.Mathlib.Omega.{arith}
 use mathlib.Core.Path.{◌∙◌}
 use lib.ListN.{length-set}
-use Rattle.flags.specs.Both.{both_at}
 use Rattle.flags.proofs.Both.{both_more, both_done}
 use borrow.Author.Rules.{rules}
 use Rattle.flags.proofs.with_provisional.Goals as goal

@@ -1,6 +1,5 @@
 use borrow.Author.Rules.{rules}
 use native.Mathlib.Omega.{arith}
-use Rattle.sorts.specs.Blank.{blank_cond}
 use Rattle.rows.proofs.Deciding.{each_more, length_mapped}
 use Rattle.form.proofs.Alike.{blank_after}
 use Rattle.form.proofs.unused_conds_ok.Goals as goal

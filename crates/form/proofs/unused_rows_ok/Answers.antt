@@ -1,5 +1,4 @@
 use borrow.Author.Rules.{rules}
-use Rattle.sorts.specs.Blank.{blank_row}
 use native.Mathlib.Omega.{arith}
 use Rattle.rows.proofs.Deciding.{each_more}
 use Rattle.form.proofs.unused_rows_ok.Goals as goal
