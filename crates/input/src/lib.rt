@@ -1,12 +1,14 @@
-// Standard input, read to its end or until its room is full. What fails is told.
+// An input, read to its end or until its room is full. What fails is told.
 #![tactic(auto)]
 
-ghost use Rattle.std.specs.Prelude.{true, false, not, ◌≡◌, ◌+◌, ◌<◌, ◌≤◌, length};
-ghost use Rattle.io.specs.Counts.{IsPrefixLen};
-ghost use Rattle.libc.specs.Io.{Moved};
-ghost use Rattle.input.specs.Inputs.{Heard};
+ghost use Rattle.std.specs.Prelude.{true, false, not, ◌≡◌, ◌+◌, ◌^◌, ◌<◌, ◌≤◌, ◌↔◌, length, take, drop, IsTrue, IfErr};
+ghost use Rattle.std.specs.Io.{ReadsAtMost};
+ghost use Rattle.std.specs.Io.KnownBytes.{Consumes, IsAtEnd};
+ghost use Rattle.std.specs.IoError.{error_kind};
+ghost use Rattle.input.specs.Inputs.{Heard, IsPrefixLen};
 
-use libc::{EINTR, STDIN_FILENO};
+use std::io;
+use std::io::{ErrorKind, Read};
 
 // How many bytes were read, how many interrupted reads may still be made again, whether more may come, and whether a read failed.
 #[derive(Clone, Copy)]
@@ -18,12 +20,15 @@ pub struct Input {
 }
 
 // The input after a read that failed: one that a signal interrupted is made again, any other is told.
-fn failed(i: Input) -> Input
-    ensures { (result.n ≡ i.n) × (result.failed ≡ not result.open) × (result.open ≡ true → result.tries < i.tries) }
+fn failed(i: Input, e: io::Error) -> Input
+    ensures unread { result.n ≡ i.n }
+    ensures told { result.failed ≡ not result.open }
+    ensures fewer { result.open ≡ true → result.tries < i.tries }
+    ensures again { IsTrue result.open ↔ ((error_kind e ≡ ErrorKind.Interrupted) × (0 < i.tries)) }
 {
     let n = i.n;
     let tries = i.tries;
-    if os::errno() != EINTR {
+    if e.kind() != ErrorKind::Interrupted {
         return Input {
             n,
             tries,
@@ -48,46 +53,56 @@ fn failed(i: Input) -> Input
 }
 
 // The input after a read into room that answered got.
-fn heard(i: Input, got: isize, room: &[u8]) -> Input
-    requires { (i.n + length room.now < 18446744073709551616) × Moved (length room.now) got }
-    ensures { Heard got i result × (i.n ≤ result.n) × (result.n ≤ i.n + length room.now) × (result.open ≡ true → i.n + result.tries < result.n + i.tries) }
+fn heard(i: Input, got: io::Result<usize>, room: &[u8]) -> Input
+    requires fits { i.n + length room.now < 2 ^ 64 }
+    requires moved { ReadsAtMost got room.now }
+    ensures heard { Heard got i result }
+    ensures low { i.n ≤ result.n }
+    ensures high { result.n ≤ i.n + length room.now }
+    ensures nearer { result.open ≡ true → i.n + result.tries < result.n + i.tries }
+    ensures again { IfErr got (λ e. IsTrue result.open ↔ ((error_kind e ≡ ErrorKind.Interrupted) × (0 < i.tries))) }
 {
-    if got < 0 {
-        return failed(i);
-    }
     let n = i.n;
     let tries = i.tries;
-    let more = io::count(got, room);
-    if more == 0 {
-        return Input {
+    match got {
+        Err(e) => failed(i, e),
+        Ok(0) => Input {
             n,
             tries,
             open: false,
             failed: false,
-        };
-    }
-    Input {
-        n: n + more,
-        tries,
-        open: true,
-        failed: false,
+        },
+        Ok(more) => Input {
+            n: n + more,
+            tries,
+            open: true,
+            failed: false,
+        },
     }
 }
 
 // One read, into the bytes of buf that are not yet read.
-fn read_some(buf: &mut [u8], i: Input) -> Input
+fn read_some<R: Read>(reader: &mut R, buf: &mut [u8], i: Input) -> Input
     requires { i.n ≤ length buf.old }
-    ensures { (i.n ≤ result.n) × (result.n ≤ length buf.old) × (result.open ≡ true → i.n + result.tries < result.n + i.tries) }
+    ensures low { i.n ≤ result.n }
+    ensures high { result.n ≤ length buf.old }
+    ensures nearer { result.open ≡ true → i.n + result.tries < result.n + i.tries }
+    ensures kept { take i.n buf.new ≡ take i.n buf.old }
+    ensures bytes { Consumes (R.remaining reader.old) (R.remaining reader.new) (drop i.n (take result.n buf.new)) }
+    ensures end { result.open ≡ false → result.failed ≡ false → result.n < length buf.old → IsAtEnd (R.remaining reader.new) }
 {
     let at = i.n;
-    let got = libc::read(STDIN_FILENO, &mut buf[at..]);
+    let got = reader.read(&mut buf[at..]);
     heard(i, got, &buf[at..])
 }
 
 // Reads until buf is full, the input ends or a read fails. A journal that is too long is seen by its first byte too many.
-pub fn read_all(buf: &mut [u8]) -> Input
+pub fn read_all<R: Read>(reader: &mut R, buf: &mut [u8]) -> Input
     requires { 65536 < length buf.old }
-    ensures { IsPrefixLen result.n buf.new × (result.open ≡ false) }
+    ensures prefix { IsPrefixLen result.n buf.new }
+    ensures closed { result.open ≡ false }
+    ensures bytes { Consumes (R.remaining reader.old) (R.remaining reader.new) (take result.n buf.new) }
+    ensures end { result.failed ≡ false → result.n < length buf.new → IsAtEnd (R.remaining reader.new) }
 {
     let mut i = Input {
         n: 0,
@@ -97,7 +112,7 @@ pub fn read_all(buf: &mut [u8]) -> Input
     };
     let mut open = true;
     while open {
-        i = read_some(buf, i);
+        i = read_some(reader, buf, i);
         open = i.open;
     }
     i
