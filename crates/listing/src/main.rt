@@ -2,17 +2,20 @@
 #![tactic(auto)]
 
 ghost use Rattle.std.specs.Prelude.{true, false, ◌≡◌, ◌+◌, ◌≤◌, length, take};
+ghost use Rattle.std.specs.Io.KnownBytes.{Keeps, Appends};
 ghost use Rattle.bookform.specs.Books.{fresh_marks};
-ghost use Rattle.io.specs.Counts.{IsPrefixLen};
+ghost use Rattle.input.specs.Inputs.{IsPrefixLen};
+ghost use Rattle.lines.specs.Pieces.{line_pieces, joined};
 ghost use Rattle.listings.specs.Listings.{Follows, Finished};
 
 use bookform::Book;
 use input::Input;
 use journal::answers;
-use libc::STDERR_FILENO;
 use lines::Line;
 use output::Handed;
 use sorts::Number;
+use std::io;
+use std::io::Write;
 
 // How many lines were handed to the output, and whether it took them all.
 #[derive(Clone, Copy)]
@@ -22,9 +25,13 @@ struct Output {
 }
 
 // Writes the next line of the listing of s, where the output took those before it.
-fn write(o: Output, s: &[u8], line: Line) -> Output
-    requires { (o.lines ≤ 65536) × Follows s.now o.lines line }
-    ensures { (result.lines ≡ o.lines + 1) × (o.open ≡ false → result.open ≡ false) }
+fn write<W: Write>(out: &mut W, o: Output, s: &[u8], line: Line) -> Output
+    requires few { o.lines ≤ 65536 }
+    requires next { Follows s.now o.lines line }
+    ensures counted { result.lines ≡ o.lines + 1 }
+    ensures closed { o.open ≡ false → result.open ≡ false }
+    ensures nothing_more { o.open ≡ false → Keeps (W.contents out.old) (W.contents out.new) }
+    ensures written { result.open ≡ true → Appends (W.contents out.old) (W.contents out.new) (joined (line_pieces line)) }
 {
     let lines = o.lines + 1;
     let open = o.open;
@@ -35,7 +42,7 @@ fn write(o: Output, s: &[u8], line: Line) -> Output
         pieces: 0,
         open: true,
     };
-    let h = output::write_line(start, line);
+    let h = output::write_line(out, start, line);
     Output {
         lines,
         open: h.open,
@@ -43,8 +50,17 @@ fn write(o: Output, s: &[u8], line: Line) -> Output
 }
 
 // Reads a journal s record by record, from a fresh book, and writes a line for each, and the last line.
-fn list_records(s: &[u8], marks: &mut [u8], second: &mut [u8], preview: &mut [u8]) -> Output
-    requires { (length s.now ≤ 65536) × (marks.old ≡ fresh_marks) × (second.old ≡ fresh_marks) × (preview.old ≡ fresh_marks) }
+fn list_records<W: Write>(
+    out: &mut W,
+    s: &[u8],
+    marks: &mut [u8],
+    second: &mut [u8],
+    preview: &mut [u8],
+) -> Output
+    requires few { length s.now ≤ 65536 }
+    requires marks { marks.old ≡ fresh_marks }
+    requires second { second.old ≡ fresh_marks }
+    requires preview { preview.old ≡ fresh_marks }
     ensures { Finished s.now result.lines }
 {
     let mut b = Book::new();
@@ -57,16 +73,28 @@ fn list_records(s: &[u8], marks: &mut [u8], second: &mut [u8], preview: &mut [u8
         let r = journal::step(b, marks, second, preview, s, at, o.lines + 1);
         let a = r.answered;
         let line = r.line;
-        o = write(o, s, line);
+        o = write(out, o, s, line);
         b = a.book;
         at = r.next;
     }
-    write(o, s, answers::end_line(o.lines, marks))
+    write(out, o, s, answers::end_line(o.lines, marks))
 }
 
 // The listing of the bytes that were read, to the end of the input or of their room, with no failure.
-fn list(i: Input, bytes: &[u8], marks: &mut [u8], second: &mut [u8], preview: &mut [u8]) -> Output
-    requires { (i.open ≡ false) × (i.failed ≡ false) × IsPrefixLen i.n bytes.now × (marks.old ≡ fresh_marks) × (second.old ≡ fresh_marks) × (preview.old ≡ fresh_marks) }
+fn list<W: Write>(
+    out: &mut W,
+    i: Input,
+    bytes: &[u8],
+    marks: &mut [u8],
+    second: &mut [u8],
+    preview: &mut [u8],
+) -> Output
+    requires closed { i.open ≡ false }
+    requires whole { i.failed ≡ false }
+    requires within { IsPrefixLen i.n bytes.now }
+    requires marks { marks.old ≡ fresh_marks }
+    requires second { second.old ≡ fresh_marks }
+    requires preview { preview.old ≡ fresh_marks }
     ensures { Finished (take i.n bytes.now) result.lines }
 {
     let n = i.n;
@@ -75,23 +103,25 @@ fn list(i: Input, bytes: &[u8], marks: &mut [u8], second: &mut [u8], preview: &m
             lines: 0,
             open: true,
         };
-        return write(o, &bytes[..n], answers::refused_line(8));
+        return write(out, o, &bytes[..n], answers::refused_line(8));
     }
-    list_records(&bytes[..n], marks, second, preview)
+    list_records(out, &bytes[..n], marks, second, preview)
 }
 
-fn main() {
+fn main(rt: HostRuntime) -> io::Result<()> {
     let mut bytes = [0u8; 65537];
     let mut marks = [0u8; Number::MARKS];
     let mut second = [0u8; Number::MARKS];
     let mut preview = [0u8; Number::MARKS];
-    let i = input::read_all(&mut bytes);
+    let i = input::read_all(&mut rt.stdin(), &mut bytes);
     if i.failed {
-        io::write_all(STDERR_FILENO, b"listing: reading failed\n");
-        return;
+        eprintln!(rt; "listing: reading failed")?;
+        return Ok(());
     }
-    let written = list(i, &bytes, &mut marks, &mut second, &mut preview).open;
+    let mut out = rt.stdout();
+    let written = list(&mut out, i, &bytes, &mut marks, &mut second, &mut preview).open;
     if !written {
-        io::write_all(STDERR_FILENO, b"listing: writing failed\n");
+        eprintln!(rt; "listing: writing failed")?;
     }
+    Ok(())
 }
