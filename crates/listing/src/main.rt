@@ -6,6 +6,7 @@ ghost use Rattle.std.specs.Io.KnownBytes.{Keeps, Appends};
 ghost use Rattle.bookform.specs.Books.{fresh_marks};
 ghost use Rattle.input.specs.Inputs.{IsPrefixLen};
 ghost use Rattle.lines.specs.Pieces.{line_pieces, joined};
+ghost use Rattle.listing.specs.Writing.{TookListing};
 ghost use Rattle.listings.specs.Listings.{Follows, Finished};
 
 use bookform::Book;
@@ -61,7 +62,8 @@ fn list_records<W: Write>(
     requires marks { marks.old ≡ fresh_marks }
     requires second { second.old ≡ fresh_marks }
     requires preview { preview.old ≡ fresh_marks }
-    ensures { Finished s.now result.lines }
+    ensures finished { Finished s.now result.lines }
+    ensures written { result.open ≡ true → TookListing s.now (W.contents out.old) (W.contents out.new) }
 {
     let mut b = Book::new();
     let mut at: usize = 0;
@@ -95,7 +97,8 @@ fn list<W: Write>(
     requires marks { marks.old ≡ fresh_marks }
     requires second { second.old ≡ fresh_marks }
     requires preview { preview.old ≡ fresh_marks }
-    ensures { Finished (take i.n bytes.now) result.lines }
+    ensures finished { Finished (take i.n bytes.now) result.lines }
+    ensures written { result.open ≡ true → TookListing (take i.n bytes.now) (W.contents out.old) (W.contents out.new) }
 {
     let n = i.n;
     if places::over(n) {
