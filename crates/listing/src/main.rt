@@ -15,7 +15,6 @@ use journal::answers;
 use lines::Line;
 use output::Handed;
 use sorts::Number;
-use std::io;
 use std::io::Write;
 
 // How many lines were handed to the output, and whether it took them all.
@@ -111,20 +110,19 @@ fn list<W: Write>(
     list_records(out, &bytes[..n], marks, second, preview)
 }
 
-fn main(rt: HostRuntime) -> io::Result<()> {
+fn main(rt: HostRuntime) {
     let mut bytes = [0u8; 65537];
     let mut marks = [0u8; Number::MARKS];
     let mut second = [0u8; Number::MARKS];
     let mut preview = [0u8; Number::MARKS];
     let i = input::read_all(&mut rt.stdin(), &mut bytes);
     if i.failed {
-        eprintln!(rt; "listing: reading failed")?;
-        return Ok(());
+        let _ = eprintln!(rt; "listing: reading failed");
+        return;
     }
     let mut out = rt.stdout();
     let written = list(&mut out, i, &bytes, &mut marks, &mut second, &mut preview).open;
     if !written {
-        eprintln!(rt; "listing: writing failed")?;
+        let _ = eprintln!(rt; "listing: writing failed");
     }
-    Ok(())
 }
