@@ -1,2 +1,4 @@
 pub mod Marks
 pub mod Flags
+pub mod Same
+pub mod Refusals

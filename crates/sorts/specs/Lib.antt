@@ -3,3 +3,4 @@ pub mod Flags
 pub mod Blank
 pub mod RowForm
 pub mod Decides
+pub mod Refusals
