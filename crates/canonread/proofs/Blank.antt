@@ -10,8 +10,8 @@ use Rattle.ranges.specs.declared.Scope.{Scope}
 use Rattle.ranges.specs.Bytes.{got}
 use Rattle.grants.specs.Grants.{read_grant, read_concl}
 use Rattle.canon.specs.Canon.{canon, canon_concl}
-use Rattle.canonwrite.specs.declared.Formed.{Formed}
-use Rattle.canonwrite.specs.declared.Formed.TheVariants.{Short, Wrote}
+use Rattle.std.specs.Prelude.{Option, Some, None}
+use Rattle.canonwrite.specs.declared.Place.{Place}
 use Rattle.canon.specs.Most.{most_grant, most_concl}
 use Rattle.canonwrite.specs.Answers.{Answers}
 use Rattle.canonwrite.specs.Buffer.{Spot, put_concl, put_grant}
@@ -19,14 +19,14 @@ use Rattle.canonread.specs.Inner.Again.{form_bytes, concl_bytes}
 use Rattle.canonread.proofs.Read.{form_read_back, grant_from, concl_from, concl_again_lem}
 
 -- a buffer with room holds what the model has
-answers_out : (most : ℕ) (m : Spot) (before after : List ℕ) (r : Formed) → Answers most m before after r → most ≤ length before → after ≡ m.out
-answers_out most m before after Short a h = absurd (omega (arith, a.0))
-answers_out most m before after (Wrote at to) a h = ap (λ (r : Spot). r.out) a.1
+answers_out : (most : ℕ) (m : Spot) (before after : List ℕ) (r : Option Place) → Answers most m before after r → most ≤ length before → after ≡ m.out
+answers_out most m before after None a h = absurd (omega (arith, a.0))
+answers_out most m before after (Some p) a h = ap (λ (r : Spot). r.out) a.1
 
 enough : (n : ℕ) → n ≤ length {A = ℕ} (replicate n 0)
 enough n = omega (arith, length-replicate {A = ℕ} n 0)
 
-pub form_is : (s after : List ℕ) (r : Formed) → Answers most_grant (put_grant depths s 0 (replicate most_grant 0) 0) (replicate most_grant 0) after r → after ≡ form_bytes s
+pub form_is : (s after : List ℕ) (r : Option Place) → Answers most_grant (put_grant depths s 0 (replicate most_grant 0) 0) (replicate most_grant 0) after r → after ≡ form_bytes s
 unfolding form_bytes
 form_is s after r a = answers_out most_grant (put_grant depths s 0 (replicate most_grant 0) 0) (replicate most_grant 0) after r a (enough most_grant)
 
@@ -35,7 +35,7 @@ pub form_bytes_read : (s : List ℕ) (at : ℕ) (g : Grant) (n : ℕ) → read_g
 unfolding form_bytes
 form_bytes_read s at g n e = form_read_back (drop at s) 0 (replicate most_grant 0) g (length (written g)) (grant_from depths s at g n e) (enough most_grant)
 
-pub concl_form_is : (s after : List ℕ) (r : Formed) → Answers most_concl (put_concl (put_grant depths s) s 0 (replicate most_concl 0) 0) (replicate most_concl 0) after r → after ≡ concl_bytes s
+pub concl_form_is : (s after : List ℕ) (r : Option Place) → Answers most_concl (put_concl (put_grant depths s) s 0 (replicate most_concl 0) 0) (replicate most_concl 0) after r → after ≡ concl_bytes s
 unfolding concl_bytes
 concl_form_is s after r a = answers_out most_concl (put_concl (put_grant depths s) s 0 (replicate most_concl 0) 0) (replicate most_concl 0) after r a (enough most_concl)
 

@@ -7,6 +7,8 @@ use native.Mathlib.Omega.{arith}
 use lib.ListN.{length, get_or, take, drop}
 use lib.Seq.{get_or-take}
 use Rattle.sorts.specs.Numbers.{depths}
+use Rattle.sorts.specs.declared.GrantNo.{GrantNo}
+use Rattle.sorts.specs.declared.Concl as rc
 use Rattle.rows.specs.Written.{Grant, Concl, property, perm, issue, issue_any, run, export, written, written_concl}
 use Rattle.rows.proofs.Bytes.{no_true}
 use Rattle.grants.proofs.Exact.{concl_exact}
@@ -15,21 +17,19 @@ use Rattle.rows.proofs.Entering.{Good}
 use Rattle.ranges.specs.declared.Scope.{Scope}
 use Rattle.ranges.specs.Bytes.{Outcome, got, refused, and_then}
 use Rattle.grants.specs.Grants.{read_grant, read_concl}
-use Rattle.grants.specs.declared.GrantReading.{GrantReading}
-use Rattle.grants.specs.declared.ConclReading.{ConclReading}
-use Rattle.grants.specs.declared.ConclOut.{ConclOut}
-use Rattle.grants.specs.Inner.OnePass.{on_grant, on_concl, no_g, no_c, num_grant, num_concl}
+use Rattle.grants.specs.Inner.OnePass.{Numbered, over, onward, num_grant}
+use Rattle.grants.proofs.Steps.{at_got, at_refused}
 use Rattle.grants.proofs.Fuse.{FusedG, FuseG, FusedC, FuseC, fuse_grant, fuse_concl}
 use Rattle.canon.specs.Canon.{canon, canon_concl}
-use Rattle.canonread.specs.Inner.Again.{form_bytes, concl_bytes, again, concl_again, num_form, holds_grant, num_concl_form}
+use Rattle.canonread.specs.Inner.Again.{form_bytes, concl_bytes, again, num_form, holds_grant, read_concl_whole, num_concl_form}
 use Rattle.canonread.proofs.Blank.{form_bytes_read, concl_bytes_read}
 
 -- another place after it leaves what was read
-again_fused : (N : List Grant) (g : Grant) (m : ℕ) (R : GrantReading) → FusedG N g m R → (n : ℕ) → FusedG N g n (again n R)
-again_fused N g m R u n = rw u.out (record { no = u.no; out = refl; good = u.good; names = u.names })
+again_fused : (N : List Grant) (g : Grant) (m : ℕ) (R : Numbered GrantNo) → FusedG N g m R → (n : ℕ) → FusedG N g n (onward R (λ no k w. over w (got no n)))
+again_fused N g m R u n = rw (at_got R _ u.out) (record { no = u.no; out = refl; good = u.good; names = u.names })
 
-concl_again_fused : (N : List Grant) (c : Concl) (m : ℕ) (R : ConclReading) → FusedC N c m R → (n : ℕ) → FusedC N c n (concl_again n R)
-concl_again_fused N c m R u n = rw u.out (record { row = u.row; out = refl; good = u.good; names = u.names })
+concl_again_fused : (N : List Grant) (c : Concl) (m : ℕ) (R : Numbered rc.Concl) → FusedC N c m R → (n : ℕ) → FusedC N c n (onward R (λ x k w. over w (got x n)))
+concl_again_fused N c m R u n = rw (at_got R _ u.out) (record { row = u.row; out = refl; good = u.good; names = u.names })
 
 -- A conclusion that holds no grant is its own form, and its bytes tell it.
 abbrev Plain : Concl → Type 0
@@ -64,37 +64,33 @@ plain l (perm p (export n)) e h = tt
 module _ (s : List ℕ) (at : ℕ) (t : Numbering) (N : List Grant) (G : Good t N) where
   pub fuse_form : FuseG N (and_then (read_grant depths s at) (λ g n. got (canon g) n)) (num_form s at t)
   unfolding num_form
-  fuse_form = go (read_grant depths s at) refl (fuse_grant depths (omega arith) s at t N G)
+  fuse_form = go (read_grant depths s at) refl (num_grant depths s at t) (fuse_grant depths (omega arith) s at t N G)
     where
-      go : (o : Outcome Grant) → read_grant depths s at ≡ o → FuseG N o (num_grant depths s at t) →
-          FuseG N (and_then o (λ g n. got (canon g) n)) (on_grant (num_grant depths s at t).out (no_g t) (λ g n. again n (num_grant depths (form_bytes (drop at s)) 0 t)))
-      go (refused k) e f = rw f refl
-      go (got g n) e u =
-          let f = subst (λ (o : Outcome Grant). FuseG N o (num_grant depths (form_bytes (drop at s)) 0 t)) (form_bytes_read s at g n e) (fuse_grant depths (omega arith) (form_bytes (drop at s)) 0 t N G) in
-          rw u.out (again_fused N (canon g) _ (num_grant depths (form_bytes (drop at s)) 0 t) f n)
+      form : Numbering → Numbered GrantNo
+      form = num_grant depths (form_bytes (drop at s)) 0
+
+      go : (o : Outcome Grant) → read_grant depths s at ≡ o → (R : Numbered GrantNo) → FuseG N o R → FuseG N (and_then o (λ g n. got (canon g) n)) (again R.out form t)
+      go (refused k) e R f = rw (at_refused (over t R.out) _ f) refl
+      go (got g n) e R u =
+          let f = subst (λ (o : Outcome Grant). FuseG N o (form t)) (form_bytes_read s at g n e) (fuse_grant depths (omega arith) (form_bytes (drop at s)) 0 t N G) in
+          rw (at_got (over t R.out) _ u.out) (again_fused N (canon g) _ (form t) f n)
 
   pub fuse_concl_form : (v : Scope) → FuseC N (and_then (read_concl (read_grant depths s) v s at) (λ c n. got (canon_concl c) n)) (num_concl_form v s at t)
   unfolding num_concl_form
-  fuse_concl_form v = go (read_concl (read_grant depths s) v s at) refl (fused s at)
+  fuse_concl_form v = go (read_concl (read_grant depths s) v s at) refl (read_concl_whole v s at t) (fused s at) (holds_grant (drop at s)) refl
     where
-      fused : (l : List ℕ) (i : ℕ) → FuseC N (read_concl (read_grant depths l) v l i) (num_concl (num_grant depths l) v l i t)
+      fused : (l : List ℕ) (i : ℕ) → FuseC N (read_concl (read_grant depths l) v l i) (read_concl_whole v l i t)
       fused l i = fuse_concl (read_grant depths l) (num_grant depths l) (fuse_grant depths (omega arith) l) v l i t N G
 
-      -- read again, or as it is
-      either : (c : Concl) (n : ℕ) → read_concl (read_grant depths s) v s at ≡ got c n → FusedC N c n (num_concl (num_grant depths s) v s at t) → (b : Bool) → holds_grant (drop at s) ≡ b →
-          FusedC N (canon_concl c) n (cond b (concl_again n (num_concl (num_grant depths (concl_bytes (drop at s))) v (concl_bytes (drop at s)) 0 t)) (num_concl (num_grant depths s) v s at t))
-      either c n e u true h =
-          let R = num_concl (num_grant depths (concl_bytes (drop at s))) v (concl_bytes (drop at s)) 0 t in
-          let f = subst (λ (o : Outcome Concl). FuseC N o R) (concl_bytes_read s at v c n e) (fused (concl_bytes (drop at s)) 0) in
-          concl_again_fused N (canon_concl c) _ R f n
-      either c n e u false h = subst (λ (d : Concl). FusedC N d n (num_concl (num_grant depths s) v s at t)) (sym (plain_own c (plain (drop at s) c (concl_exact depths s at v c n e).2 h))) u
+      form : Numbering → Numbered rc.Concl
+      form = read_concl_whole v (concl_bytes (drop at s)) 0
 
-      go : (o : Outcome Concl) → read_concl (read_grant depths s) v s at ≡ o → FuseC N o (num_concl (num_grant depths s) v s at t) →
-          FuseC N (and_then o (λ c n. got (canon_concl c) n))
-          (on_concl (num_concl (num_grant depths s) v s at t).out (no_c t) (λ c n.
-          cond (holds_grant (drop at s)) (concl_again n (num_concl (num_grant depths (concl_bytes (drop at s))) v (concl_bytes (drop at s)) 0 t)) (num_concl (num_grant depths s) v s at t)))
-      go (refused k) e f = rw f refl
-      go (got c n) e u =
-          subst (λ (o : ConclOut). FusedC N (canon_concl c) n (on_concl o (no_c t) (λ c n.
-          cond (holds_grant (drop at s)) (concl_again n (num_concl (num_grant depths (concl_bytes (drop at s))) v (concl_bytes (drop at s)) 0 t)) (num_concl (num_grant depths s) v s at t))))
-          (sym u.out) (either c n e u (holds_grant (drop at s)) refl)
+      -- read again, or as it is
+      go : (o : Outcome Concl) → read_concl (read_grant depths s) v s at ≡ o → (R : Numbered rc.Concl) → FuseC N o R → (b : Bool) → holds_grant (drop at s) ≡ b →
+          FuseC N (and_then o (λ c n. got (canon_concl c) n)) (cond b (again R.out form t) R)
+      go (refused k) e R f true h = rw (at_refused (over t R.out) _ f) refl
+      go (refused k) e R f false h = f
+      go (got c n) e R u true h =
+          let f = subst (λ (o : Outcome Concl). FuseC N o (form t)) (concl_bytes_read s at v c n e) (fused (concl_bytes (drop at s)) 0) in
+          rw (at_got (over t R.out) _ u.out) (concl_again_fused N (canon_concl c) _ (form t) f n)
+      go (got c n) e R u false h = subst (λ (d : Concl). FusedC N d n R) (sym (plain_own c (plain (drop at s) c (concl_exact depths s at v c n e).2 h))) u

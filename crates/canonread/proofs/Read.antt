@@ -16,11 +16,16 @@ use Rattle.canon.specs.Most.{most_grant, most_concl}
 use Rattle.canon.specs.Canon.{canon, canon_concl}
 use Rattle.canonwrite.specs.Model.{Wrote, form_grant, form_concl}
 use Rattle.canonwrite.proofs.Model.{form_grant_lem, form_concl_lem}
-use Rattle.canonwrite.specs.declared.Formed.TheVariants.{Wrote as Told}
+use Rattle.std.specs.Prelude.{Option, Some}
+use Rattle.canonwrite.specs.declared.Place.{Place}
 use Rattle.canonwrite.specs.Answers.{Answers}
 use Rattle.canonwrite.specs.Buffer.{Spot, put_concl, put_grant}
 use Rattle.canonwrite.proofs.Into.{Done, put_grant_lem, put_concl_lem}
 use Rattle.canon.proofs.Size as size
+
+-- what writing answers where there is room
+abbrev Told : ℕ → ℕ → Option Place
+Told at to = Some (record { at = at; to = to })
 
 stands : (s : List ℕ) (at : ℕ) (w : List ℕ) → take (length w) (drop at s) ≡ w → drop at s ≡ w ++ drop (length w) (drop at s)
 stands s at w e = sym (take-append-drop (length w) (drop at s)) ∙ ap (λ (l : List ℕ). l ++ drop (length w) (drop at s)) e

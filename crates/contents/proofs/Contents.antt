@@ -10,7 +10,10 @@ use lib.ListN.{length, get_or, get_or-append}
 use lib.Dec.{leb}
 use borrow.Author.Tests.{le-leb, lt-leb, leb-true, leb-false}
 use Rattle.sorts.specs.declared.GrantNo.{GrantNo}
+use Rattle.sorts.specs.declared.Concl as rc
 use Rattle.sorts.specs.declared.Prin.{Prin}
+use Rattle.sorts.specs.declared.Refusal.{Refusal}
+use Rattle.sorts.specs.Refusals.{refusal_number}
 use Rattle.sorts.specs.Numbers.{depths, grants, speakers}
 use Rattle.sorts.proofs.Marks.{grant_is}
 use Rattle.rows.specs.declared.Table.{Table}
@@ -23,29 +26,23 @@ use Rattle.rows.proofs.Appended.{number_ext}
 use Rattle.rows.proofs.Shown.{form_shown, shown_form, shown_out}
 use Rattle.rows.proofs.Entering.{Good, tied, over, Names}
 use Rattle.rows.proofs.Known.{numbered_known, concl_back}
-use Rattle.grants.specs.declared.GrantOut.{GrantOut}
-use Rattle.grants.specs.declared.GrantOut.TheVariants as grant
-use Rattle.grants.specs.declared.ConclOut.{ConclOut}
-use Rattle.grants.specs.declared.ConclOut.TheVariants as concl
-use Rattle.grants.specs.declared.GrantReading.{GrantReading}
-use Rattle.grants.specs.declared.ConclReading.{ConclReading}
 use Rattle.frames.specs.declared.Kind.{Kind}
 use Rattle.sorts.specs.declared.Status.{Status}
 use Rattle.sorts.specs.declared.Status.TheVariants.{Trusted, Issued, Provisional}
 use Rattle.contents.specs.declared.Request.{Request}
-use Rattle.contents.specs.declared.Request.TheVariants.{Enter, Remove, Confirm, Preview, Query}
+use Rattle.contents.specs.declared.Request.TheVariants.{Enter, Query}
 use Rattle.contents.specs.declared.Revision.{Revision}
 use Rattle.contents.specs.declared.Revision.TheVariants as revision
 use Rattle.contents.specs.declared.Deed.{Deed}
 use Rattle.contents.specs.declared.Deed.TheVariants as deed
 use Rattle.contents.specs.declared.Found.{Found}
-use Rattle.contents.specs.declared.Found.TheVariants.{Asks, Full, Unknown, Refused}
+use Rattle.contents.specs.declared.Found.TheVariants.{Asks, Full, Unknown}
 use Rattle.contents.specs.declared.Reading.{Reading}
 use Rattle.ranges.specs.Bytes.{Outcome, got, refused, and_then, upto}
 use Rattle.grants.specs.Grants.{read_grant, read_concl}
 use Rattle.contents.specs.Records.{Record, enter, remove, confirm, preview, query, read_entry, read_licence, read_query, read_content, nothing_declared, canon_record}
 use Rattle.contents.specs.Requests.{number_found, fits, asking, found_of, numbered_by, numbers, TurnedBack}
-use Rattle.grants.specs.Inner.OnePass.{on_outcome, on_grant, on_concl}
+use Rattle.grants.specs.Inner.OnePass.{Numbered, on_outcome}
 use Rattle.canon.specs.Canon.{canon, canon_concl}
 use Rattle.canonread.specs.Inner.Again.{num_form, num_concl_form}
 use Rattle.canonread.proofs.Fuse.{fuse_form, fuse_concl_form}
@@ -120,14 +117,14 @@ module _ (t : Table) (f : TableForm t) where
   start_good : Good (starting t) N
   start_good = tied refl (form_shown t f)
 
-  refused_right : (k : ℕ) → Right N t (refused k) (no_r t 0 k)
+  refused_right : (k : Refusal) → Right N t (refused k) (no_r t 0 k)
   unfolding found_of numbered_by
   refused_right k = record { found = refl; rows = refl; form = f }
 
   -- to enter
 
   module _ (by : Status) where
-    entry_right : (o : Outcome Grant) (R : GrantReading) → FuseG N o R → Right N t (and_then o (λ g n. got (enter by g) n)) (entry_of by t R)
+    entry_right : (o : Outcome Grant) (R : Numbered GrantNo) → FuseG N o R → Right N t (and_then o (λ g n. got (enter by g) n)) (entry_of by t R)
     unfolding Names found_of numbered_by given
     entry_right (refused k) R e = rw e (refused_right k)
     entry_right (got g n) R u = rw u.out (go u.good)
@@ -165,7 +162,7 @@ module _ (t : Table) (f : TableForm t) where
       form = f;
     }
 
-    revision_right : (o : Outcome Grant) (R : GrantReading) → FuseG N o R → Right N t (and_then o (λ g n. got (revised v g) n)) (revision_of v t R)
+    revision_right : (o : Outcome Grant) (R : Numbered GrantNo) → FuseG N o R → Right N t (and_then o (λ g n. got (revised v g) n)) (revision_of v t R)
     unfolding Names known
     revision_right (refused k) R e = rw e (refused_right k)
     revision_right (got g n) R u = rw u.out (go u.good (has g N) refl)
@@ -216,7 +213,7 @@ module _ (t : Table) (f : TableForm t) where
 
   -- to query
 
-  query_right : (o : Outcome Concl) (R : ConclReading) → FuseC N o R → Right N t (and_then o (λ c n. got (query c) n)) (query_of t R)
+  query_right : (o : Outcome Concl) (R : Numbered rc.Concl) → FuseC N o R → Right N t (and_then o (λ c n. got (query c) n)) (query_of t R)
   unfolding found_of numbered_by given
   query_right (refused k) R e = rw e (record { found = refl; rows = refl; form = f })
   query_right (got c n) R u = rw u.out (go u.good)
@@ -293,30 +290,30 @@ module _ (t : Table) (f : TableForm t) where
 
 -- A record that numbers nothing keeps the table, in form or not.
 
-entry_keeps : (by : Status) (t : Table) (R : GrantReading) → Keeps t (entry_of by t R)
+entry_keeps : (by : Status) (t : Table) (R : Numbered GrantNo) → Keeps t (entry_of by t R)
 unfolding given
 entry_keeps by t R = go R.out R.numbering.full
   where
-    go : (o : GrantOut) (b : Bool) → Keeps t (on_grant o (no_r t 0) (λ g n. cond b (record { table = t; found = Full n }) (record { table = R.numbering.table; found = Asks (Enter by g) n })))
-    go (grant.Got g n) true e = refl
-    go (grant.Got g n) false e = absurd (no_true (sym e))
-    go (grant.Refused k) b e = refl
+    go : (o : Outcome GrantNo) (b : Bool) → Keeps t (on_outcome o (no_r t 0) (λ g n. cond b (record { table = t; found = Full n }) (record { table = R.numbering.table; found = Asks (Enter by g) n })))
+    go (got g n) true e = refl
+    go (got g n) false e = absurd (no_true (sym e))
+    go (refused k) b e = refl
 
-revision_keeps : (v : Revision) (t : Table) (R : GrantReading) → Keeps t (revision_of v t R)
+revision_keeps : (v : Revision) (t : Table) (R : Numbered GrantNo) → Keeps t (revision_of v t R)
 revision_keeps v t R = go R.out
   where
-    go : (o : GrantOut) → Keeps t (on_grant o (no_r t 0) (λ g n. record { table = t; found = known t.count R.numbering.full v g n }))
-    go (grant.Got g n) e = refl
-    go (grant.Refused k) e = refl
+    go : (o : Outcome GrantNo) → Keeps t (on_outcome o (no_r t 0) (λ g n. record { table = t; found = known t.count R.numbering.full v g n }))
+    go (got g n) e = refl
+    go (refused k) e = refl
 
-query_keeps : (t : Table) (R : ConclReading) → Keeps t (query_of t R)
+query_keeps : (t : Table) (R : Numbered rc.Concl) → Keeps t (query_of t R)
 unfolding given
 query_keeps t R = go R.out R.numbering.full
   where
-    go : (o : ConclOut) (b : Bool) → Keeps t (on_concl o (no_r t 0) (λ c n. cond b (record { table = t; found = Full n }) (record { table = R.numbering.table; found = Asks (Query c) n })))
-    go (concl.Got c n) true e = refl
-    go (concl.Got c n) false e = absurd (no_true (sym e))
-    go (concl.Refused k) b e = refl
+    go : (o : Outcome rc.Concl) (b : Bool) → Keeps t (on_outcome o (no_r t 0) (λ c n. cond b (record { table = t; found = Full n }) (record { table = R.numbering.table; found = Asks (Query c) n })))
+    go (got c n) true e = refl
+    go (got c n) false e = absurd (no_true (sym e))
+    go (refused k) b e = refl
 
 licensed_keeps : (d : Deed) (p : Prin) (s : List ℕ) (at : ℕ) (t : Table) → Keeps t (num_licensed d p s at t)
 unfolding num_licensed num_entry num_revision
@@ -349,12 +346,12 @@ content_keeps Kind.Qu c t e = query_keeps t (num_concl_form nothing_declared c 0
 
 module _ (k : ℕ) where
   asked_or : (t : Bool) (q : Request) (n : ℕ) (f : Found) (j : ℕ) → number_found f ≡ some j → (number_found (cond t (Asks q n) f) ≡ some k) ↔ ((t ≡ false) × (k ≡ j))
-  asked_or true q n f j e = (λ h. let z : ◌≡◌ {A = ℕ} 0 1 = cc in absurd (omega arith), λ h. absurd (no_true (sym h.0)))
+  asked_or true q n f j e = (λ h. cc, λ h. absurd (no_true (sym h.0)))
   asked_or false q n f j e = (λ h. let d : some j ≡ some k = sym e ∙ h in let z : j ≡ k = cc in (refl, sym z), λ h. e ∙ ap some (sym h.1))
 
   pub found_number : (N : List Grant) (u : ℕ) (o : Outcome Record) → (number_found (found_of N u o) ≡ some k) ↔ TurnedBack N o k
   unfolding found_of
-  found_number N u (refused j) = (λ h. let d : j ≡ k = cc in d, λ h. ap some h)
+  found_number N u (refused j) = (λ h. let d : refusal_number j ≡ k = cc in d, λ h. ap some h)
   found_number N u (got (enter by g) n) = asked_or (fits (number g N)) _ n (Full n) 6 refl
   found_number N u (got (remove by g) n) = asked_or (has g N) _ n (Unknown n) 7 refl
   found_number N u (got (confirm p g) n) = asked_or (has g N) _ n (Unknown n) 7 refl

@@ -3,6 +3,7 @@
 use Rattle.std.specs.Prelude.{ℕ, ◌≡◌, Bool, true, false, cond, List, length, leb}
 use Rattle.std.proofs.Math.Option.{Option, none, some}
 use Rattle.sorts.specs.Numbers.{grants}
+use Rattle.sorts.specs.Refusals.{refusal_number}
 use Rattle.rows.specs.Written.{Grant}
 use Rattle.rows.specs.Numbering.{place, has, number, number_concl}
 use Rattle.rows.specs.Form.{concl_of}
@@ -21,7 +22,7 @@ abbrev pub number_found : Found → Option ℕ
 number_found (Asks q n) = none
 number_found (Full n) = some 6
 number_found (Unknown n) = some 7
-number_found (Refused k n) = some k
+number_found (Refused k n) = some (refusal_number k)
 
 abbrev pub used_found : Found → ℕ
 used_found (Asks q n) = n
@@ -73,7 +74,7 @@ numbers (Refused k n) = false
 -- When a record is turned back where the grants N are numbered, by what was read: the fault's own number; 6 "the grants that the
 -- record would number and those in N exceed 64"; 7 for the removal or the confirming of a grant that has no number.
 abbrev pub TurnedBack : List Grant → Outcome Record → ℕ → Type 0
-TurnedBack N (refused j) k = j ≡ k
+TurnedBack N (refused j) k = refusal_number j ≡ k
 TurnedBack N (got (enter by g) n) k = (fits (number g N) ≡ false) × (k ≡ 6)
 TurnedBack N (got (remove by g) n) k = (has g N ≡ false) × (k ≡ 7)
 TurnedBack N (got (confirm p g) n) k = (has g N ≡ false) × (k ≡ 7)

@@ -1,15 +1,13 @@
 // The contents of records: what a record of each kind asks, with its grants numbered.
 #![tactic(auto)]
 
-ghost use Rattle.std.specs.Prelude.{◌≡◌, ◌≤◌};
-ghost use Rattle.sorts.specs.Numbers.{grants};
-ghost use Rattle.contents.specs.Inner.Numbered.{starting, no_r, given, num_entry, asked, known, num_revision, num_query, num_licensed, num_licence, num_content};
+ghost use Rattle.std.specs.Prelude.{◌≡◌};
+ghost use Rattle.contents.specs.Inner.Numbered.{starting, no_r, settled, given, num_entry, asked, known, num_revision, num_query, num_licensed, num_licence, num_content};
 
 use frames::Kind;
-use grants::{ConclOut, GrantOut};
-use ranges::{Got, Scope};
+use ranges::Scope;
 use rows::{Numbering, Table};
-use sorts::{Concl, GrantNo, Prin, Status};
+use sorts::{Concl, GrantNo, Prin, Refusal, Status};
 
 // The last principal who may issue.
 const LAST_ISSUER: u8 = Prin::SPEAKERS - 1;
@@ -46,13 +44,13 @@ enum Deed {
 }
 
 // What the reader found: a request; a record whose new grants find no numbers left; a record that removes, confirms or previews what
-// has no number; each with the record's length. Or the number of the refusal, with the bytes that are used.
+// has no number; each with the record's length. Or the refusal, with the bytes that are used.
 #[derive(Clone, Copy)]
 pub enum Found {
     Asks(Request, usize),
     Full(usize),
     Unknown(usize),
-    Refused(u8, usize),
+    Refused(Refusal, usize),
 }
 
 // What was found, and the table with the record's grants numbered.
@@ -62,58 +60,44 @@ pub struct Reading {
     pub found: Found,
 }
 
-// The table before the first grant of a record is numbered.
-fn start(t: Table) -> Numbering
-    ensures { result ≡ starting t }
-{
-    Numbering {
-        table: t,
-        full: false,
+impl Reading {
+    // A record that is refused, which leaves the table, and uses n bytes.
+    pub fn refused(table: Table, n: usize, k: Refusal) -> Reading
+        ensures { result ≡ no_r table n k }
+    {
+        Reading {
+            table,
+            found: Found::Refused(k, n),
+        }
     }
 }
 
-// A record that is refused, which leaves the table, and uses n bytes.
-pub fn refused(t: Table, n: usize, k: u8) -> Reading
-    ensures { result ≡ no_r t n k }
+// The numbering before the first grant of a record is numbered.
+fn start(t: Numbering) -> Numbering
+    ensures { result ≡ starting t.table }
 {
-    Reading {
-        table: t,
-        found: Found::Refused(k, n),
-    }
+    Numbering { full: false, ..t }
 }
 
 // A request that numbers its grants, where u is the table with them; nothing is numbered where the numbers do not reach.
-fn given(t: Table, u: Numbering, q: Request, n: usize) -> Reading
-    ensures { result ≡ given t u q n }
+#[tactic(auto, unfolding(crate::specs::Inner::Numbered::given))]
+fn given(table: Table, u: Numbering, q: Request, n: usize) -> Reading
+    ensures { result ≡ given table u q n }
 {
     if u.full {
         return Reading {
-            table: t,
+            table,
             found: Found::Full(n),
         };
     }
-    let table = u.table;
     Reading {
-        table,
+        table: u.table,
         found: Found::Asks(q, n),
     }
 }
 
-// A grant to enter, numbered where it is new.
-fn read_entry(s: &[u8], at: usize, by: Status, t: Table) -> Reading
-    requires { t.count ≤ grants }
-    ensures { result ≡ num_entry by s.now at t }
-{
-    let g = canonread::read_grant(s, at, start(t));
-    let u = g.numbering;
-    let o = g.out;
-    match o {
-        GrantOut::Refused(k) => refused(t, 0, k),
-        GrantOut::Got(no, n) => given(t, u, Request::Enter(by, no), n),
-    }
-}
-
 // The request to revise how grant `no` stands.
+#[tactic(auto, unfolding(crate::specs::Inner::Numbered::asked))]
 fn asked(v: Revision, no: GrantNo) -> Request
     ensures { result ≡ asked v no }
 {
@@ -125,55 +109,57 @@ fn asked(v: Revision, no: GrantNo) -> Request
 }
 
 // What is found of a grant to revise, where `count` numbers were given before it was numbered: it must have one of them.
+#[tactic(auto, unfolding(crate::specs::Inner::Numbered::known))]
 fn known(count: usize, full: bool, v: Revision, no: GrantNo, n: usize) -> Found
     ensures { result ≡ known count full v no n }
 {
-    if full {
+    if full || count <= no.0 as usize {
         return Found::Unknown(n);
     }
-    if count <= no.0 as usize {
-        return Found::Unknown(n);
-    }
-    let q = asked(v, no);
-    Found::Asks(q, n)
+    Found::Asks(asked(v, no), n)
+}
+
+// Each of the next reads what follows in a content, over the table of the grants numbered before; a fault ends it.
+
+// A grant to enter, numbered where it is new.
+#[tactic(auto, unfolding(crate::specs::Inner::Numbered::num_entry))]
+fn read_entry(s: &[u8], at: usize, by: Status, t: Numbering) -> Result<Reading, Refusal>
+    ensures { settled t.table result ≡ num_entry by s.now at t.table }
+{
+    let mut u = start(t);
+    let (no, n) = canonread::read_grant(s, at, &mut u)?;
+    Ok(given(t.table, u, Request::Enter(by, no), n))
 }
 
 // A grant to revise; nothing is numbered.
-fn read_revision(s: &[u8], at: usize, v: Revision, t: Table) -> Reading
-    requires { t.count ≤ grants }
-    ensures { result ≡ num_revision v s.now at t }
+#[tactic(auto, unfolding(crate::specs::Inner::Numbered::num_revision))]
+fn read_revision(s: &[u8], at: usize, v: Revision, t: Numbering) -> Result<Reading, Refusal>
+    ensures { settled t.table result ≡ num_revision v s.now at t.table }
 {
-    let g = canonread::read_grant(s, at, start(t));
-    let u = g.numbering;
-    let o = g.out;
-    match o {
-        GrantOut::Refused(k) => refused(t, 0, k),
-        GrantOut::Got(no, n) => Reading {
-            table: t,
-            found: known(t.count, u.full, v, no, n),
-        },
-    }
+    let mut u = start(t);
+    let (no, n) = canonread::read_grant(s, at, &mut u)?;
+    let found = known(t.table.count, u.full, v, no, n);
+    Ok(Reading {
+        table: t.table,
+        found,
+    })
 }
 
 // The closed conclusion of a query, its grants numbered where they are new.
-fn read_query(s: &[u8], at: usize, t: Table) -> Reading
-    requires { t.count ≤ grants }
-    ensures { result ≡ num_query s.now at t }
+#[tactic(auto, unfolding(crate::specs::Inner::Numbered::num_query))]
+fn read_query(s: &[u8], at: usize, t: Numbering) -> Result<Reading, Refusal>
+    ensures { settled t.table result ≡ num_query s.now at t.table }
 {
     let nothing = Scope { prins: 0, res: 0 };
-    let c = canonread::read_concl(s, at, nothing, start(t));
-    let u = c.numbering;
-    let o = c.out;
-    match o {
-        ConclOut::Refused(k) => refused(t, 0, k),
-        ConclOut::Got(what, n) => given(t, u, Request::Query(what), n),
-    }
+    let mut u = start(t);
+    let (what, n) = canonread::read_concl(s, at, nothing, &mut u)?;
+    Ok(given(t.table, u, Request::Query(what), n))
 }
 
 // The grant of a licence of p, after the issuer byte.
-fn read_licensed(s: &[u8], at: usize, d: Deed, p: Prin, t: Table) -> Reading
-    requires { t.count ≤ grants }
-    ensures { result ≡ num_licensed d p s.now at t }
+#[tactic(auto, unfolding(crate::specs::Inner::Numbered::num_licensed))]
+fn read_licensed(s: &[u8], at: usize, d: Deed, p: Prin, t: Numbering) -> Result<Reading, Refusal>
+    ensures { settled t.table result ≡ num_licensed d p s.now at t.table }
 {
     match d {
         Deed::Issue => read_entry(s, at, Status::Issued(p), t),
@@ -185,20 +171,18 @@ fn read_licensed(s: &[u8], at: usize, d: Deed, p: Prin, t: Table) -> Reading
 }
 
 // What follows the mark of a record on a licence: the issuer and the grant.
-fn read_licence(s: &[u8], at: usize, d: Deed, t: Table) -> Reading
-    requires { t.count ≤ grants }
-    ensures { result ≡ num_licence d s.now at t }
+#[tactic(auto, unfolding(crate::specs::Inner::Numbered::num_licence))]
+fn read_licence(s: &[u8], at: usize, d: Deed, t: Numbering) -> Result<Reading, Refusal>
+    ensures { settled t.table result ≡ num_licence d s.now at t.table }
 {
-    match ranges::read_upto(LAST_ISSUER, s, at) {
-        Got::No(k) => refused(t, 0, k),
-        Got::Byte(p, n) => read_licensed(s, n, d, Prin(p), t),
-    }
+    let (p, n) = ranges::read_upto(LAST_ISSUER, s, at)?;
+    read_licensed(s, n, d, Prin(p), t)
 }
 
 // The content of a record, from its first byte on.
-pub fn read_content(k: Kind, c: &[u8], t: Table) -> Reading
-    requires { t.count ≤ grants }
-    ensures { result ≡ num_content k c.now t }
+#[tactic(auto, unfolding(crate::specs::Inner::Numbered::num_content))]
+fn read_kind(k: Kind, c: &[u8], t: Numbering) -> Result<Reading, Refusal>
+    ensures { settled t.table result ≡ num_content k c.now t.table }
 {
     match k {
         Kind::Tg => read_entry(c, 0, Status::Trusted, t),
@@ -209,5 +193,15 @@ pub fn read_content(k: Kind, c: &[u8], t: Table) -> Reading
         Kind::Pl => read_licence(c, 0, Deed::Provisional, t),
         Kind::Cf => read_licence(c, 0, Deed::Confirm, t),
         Kind::Pv => read_licence(c, 0, Deed::Preview, t),
+    }
+}
+
+// What is found of a record of kind k with the content c, over the table of t; a fault in it uses no bytes.
+pub fn read_content(k: Kind, c: &[u8], t: Numbering) -> Reading
+    ensures { result ≡ num_content k c.now t.table }
+{
+    match read_kind(k, c, t) {
+        Ok(r) => r,
+        Err(fault) => Reading::refused(t.table, 0, fault),
     }
 }

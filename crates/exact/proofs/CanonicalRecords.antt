@@ -5,6 +5,7 @@ use mathlib.Core.Path.{◌≡◌, refl, sym, subst, ◌∙◌, ap}
 use native.Mathlib.Omega.{arith}
 use lib.ListN.{length, length-append}
 use Rattle.sorts.specs.declared.Status.TheVariants.{Trusted, Issued, Provisional}
+use Rattle.sorts.specs.declared.Refusal.{Refusal}
 use Rattle.ranges.specs.Bytes.{Outcome, got, refused, and_then}
 use Rattle.contents.specs.Records.{Record, enter, remove, confirm, preview, query, canon_record}
 use Rattle.reader.specs.Records.{read_record, read_canonical}
@@ -87,7 +88,7 @@ pub canonical_of : (s : List ℕ) (q : Record) (n : ℕ) → read_record s ≡ g
 unfolding read_canonical
 canonical_of s q n e = rw e refl
 
-pub canonical_no : (s : List ℕ) (k : ℕ) → read_record s ≡ refused k → read_canonical s ≡ refused k
+pub canonical_no : (s : List ℕ) (k : Refusal) → read_record s ≡ refused k → read_canonical s ≡ refused k
 unfolding read_canonical
 canonical_no s k e = rw e refl
 
@@ -99,7 +100,7 @@ canonical_got s r n e = go (read_record s) refl e
     go (got q m) h e = let a : canon_record q ≡ r = cc in let b : m ≡ n = cc in (q, h ∙ ap (got q) b, sym a)
     go (refused k) h e = let z : ◌≡◌ {A = ℕ} 0 1 = cc in absurd (omega arith)
 
-pub canonical_refused : (s : List ℕ) (k : ℕ) → read_canonical s ≡ refused k → read_record s ≡ refused k
+pub canonical_refused : (s : List ℕ) (k : Refusal) → read_canonical s ≡ refused k → read_record s ≡ refused k
 unfolding read_canonical
 canonical_refused s k e = go (read_record s) refl e
   where

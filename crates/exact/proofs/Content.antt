@@ -8,6 +8,8 @@ use lib.ListN.{length, take}
 use Rattle.sorts.specs.declared.Prin.{Prin}
 use Rattle.sorts.specs.declared.Status.TheVariants.{Issued}
 use Rattle.sorts.specs.Numbers.{speakers, depths}
+use Rattle.sorts.specs.declared.Refusal.TheVariants as refusal
+use Rattle.sorts.specs.declared.Refusal.{Refusal}
 use Rattle.rows.specs.Written.{Grant}
 use Rattle.frames.specs.declared.Kind.TheVariants.{Wd, Pv}
 use Rattle.ranges.specs.Bytes.{Outcome, got, refused, and_then, upto}
@@ -15,7 +17,7 @@ use Rattle.canon.specs.Canon.{canon}
 use Rattle.grants.specs.Grants.{read_grant}
 use Rattle.frames.specs.Frames.{letters_of, stated, Frame, holds, ends, sized, frame_length, extent}
 use Rattle.contents.specs.Records.{Record, enter, remove, confirm, preview, query, read_entry, read_licence, read_content, canon_record}
-use Rattle.reader.specs.Records.{fitted, read_whole, framed, read_record, read_canonical}
+use Rattle.reader.specs.Records.{beyond, fitted, read_whole, framed, read_record, read_canonical}
 use Rattle.exact.proofs.Framing.{letters_frame}
 
 -- What a preview asks, as the withdrawal of the same licence.
@@ -54,7 +56,7 @@ whole_withdrawn : (c : List ℕ) → withdrawn (read_whole Pv c) ≡ read_whole 
 unfolding read_whole
 whole_withdrawn c = go (read_content Pv c) ∙ ap (fitted (length c)) (content_withdrawn c)
   where
-    ending : (r : Record) (n : ℕ) (t : Bool) → withdrawn (cond t (got r n) (refused 10)) ≡ cond t (got (as_withdrawal r) n) (refused 10)
+    ending : (r : Record) (n : ℕ) (t : Bool) → withdrawn (cond t (got r n) (refused refusal.Content)) ≡ cond t (got (as_withdrawal r) n) (refused refusal.Content)
     ending r n true = refl
     ending r n false = refl
 
@@ -75,7 +77,7 @@ sized_withdrawn [] = (refl, refl)
 sized_withdrawn (a ∷ []) = (refl, refl)
 sized_withdrawn (high ∷ low ∷ s) = go (leb (stated high low) (length s)) (take (stated high low) s)
   where
-    go : (t : Bool) (c : List ℕ) → (withdrawn (framed (cond t (holds Pv c) (ends 1))) ≡ framed (cond t (holds Wd c) (ends 1))) × (frame_length (cond t (holds Pv c) (ends 1)) ≡ frame_length (cond t (holds Wd c) (ends 1)))
+    go : (t : Bool) (c : List ℕ) → (withdrawn (framed (cond t (holds Pv c) (ends refusal.Missing))) ≡ framed (cond t (holds Wd c) (ends refusal.Missing))) × (frame_length (cond t (holds Pv c) (ends refusal.Missing)) ≡ frame_length (cond t (holds Wd c) (ends refusal.Missing)))
     go true c = (framed_withdrawn c, refl)
     go false c = (refl, refl)
 
@@ -107,7 +109,7 @@ same_canonical s = go (read_record (letters_of Pv ++ s)) ∙ ap (λ (o : Outcome
 -- What is read after the letters pv is a preview, or a fault.
 pub data Previewing : Outcome Record → Type 0 where
   licence : (p : Prin) (g : Grant) (n : ℕ) → Previewing (got (preview p g) n)
-  fault : (k : ℕ) → Previewing (refused k)
+  fault : (k : Refusal) → Previewing (refused k)
 
 licence_previews : (s : List ℕ) (at : ℕ) → Previewing (read_licence preview s at)
 unfolding read_licence read_entry
@@ -126,22 +128,22 @@ unfolding read_whole read_content
 framed_previews c = go (read_licence preview c 0) (licence_previews c 0)
   where
     ending : (p : Prin) (g : Grant) (n : ℕ) (t : Bool) →
-        Previewing (and_then (and_then (cond t (got (preview p g) n) (refused 10)) (λ r m. got r (4 + length c))) (λ r m. got (canon_record r) m))
+        Previewing (and_then (and_then (cond t (got (preview p g) n) (refused refusal.Content)) (λ r m. got r (4 + length c))) (λ r m. got (canon_record r) m))
     ending p g n true = licence p (canon g) (4 + length c)
-    ending p g n false = fault 10
+    ending p g n false = fault refusal.Content
 
     go : (o : Outcome Record) → Previewing o → Previewing (and_then (and_then (fitted (length c) o) (λ r n. got r (4 + length c))) (λ r n. got (canon_record r) n))
     go o (licence p g n) = ending p g n (eqb n (length c))
-    go o (fault k) = fault (cond (eqb k 1) 10 k)
+    go o (fault k) = fault (beyond k)
 
 sized_previews : (s : List ℕ) → Previewing (and_then (framed (sized Pv s)) (λ r n. got (canon_record r) n))
-sized_previews [] = fault 1
-sized_previews (a ∷ []) = fault 1
+sized_previews [] = fault refusal.Missing
+sized_previews (a ∷ []) = fault refusal.Missing
 sized_previews (high ∷ low ∷ s) = go (leb (stated high low) (length s)) (take (stated high low) s)
   where
-    go : (t : Bool) (c : List ℕ) → Previewing (and_then (framed (cond t (holds Pv c) (ends 1))) (λ r n. got (canon_record r) n))
+    go : (t : Bool) (c : List ℕ) → Previewing (and_then (framed (cond t (holds Pv c) (ends refusal.Missing))) (λ r n. got (canon_record r) n))
     go true c = framed_previews c
-    go false c = fault 1
+    go false c = fault refusal.Missing
 
 pub preview_only : (s : List ℕ) → Previewing (read_canonical (letters_of Pv ++ s))
 unfolding read_canonical read_record

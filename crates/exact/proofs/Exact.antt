@@ -11,6 +11,7 @@ use borrow.Author.Tests.{eqb-true}
 use Rattle.frames.specs.declared.Kind.{Kind}
 use Rattle.sorts.specs.declared.Status.TheVariants.{Trusted, Issued, Provisional}
 use Rattle.sorts.specs.Numbers.{depths}
+use Rattle.sorts.specs.declared.Refusal.TheVariants as refusal
 use Rattle.ranges.specs.Bytes.{Outcome, got, refused, and_then}
 use Rattle.frames.specs.Frames.{letters_of, Frame, holds, ends, frame, extent}
 use Rattle.contents.specs.Records.{Record, enter, remove, confirm, preview, query, read_content}
@@ -43,7 +44,7 @@ whole_found k c r n e = go (read_content k c) refl e
         let is : c ≡ content_of x = f.spelled.rest ∙ ap (λ (l : List ℕ). content_of x ++ l) rest ∙ append-nil (content_of x) in
         record { kind = subst (λ (y : Record). kind_of y ≡ k) d f.kind; allowed = subst AllowedRecord d f.allowed; bytes = is ∙ ap content_of d; long = sym i ∙ q }
 
-    ends_there : (x : Record) (m : ℕ) (t : Bool) → read_content k c ≡ got x m → eqb m (length c) ≡ t → cond t (got x m) (refused 10) ≡ got r n → WholeFound k c r n
+    ends_there : (x : Record) (m : ℕ) (t : Bool) → read_content k c ≡ got x m → eqb m (length c) ≡ t → cond t (got x m) (refused refusal.Content) ≡ got r n → WholeFound k c r n
     ends_there x m true p q e = all x m p (eqb-true m (length c) q) (cc) (cc)
     ends_there x m false p q e = let z : ◌≡◌ {A = ℕ} 0 1 = cc in absurd (omega arith)
 

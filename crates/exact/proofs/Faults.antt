@@ -13,11 +13,15 @@ use borrow.Author.Tests.{ltb-true, ltb-false, lt-ltb, le-ltb, lt-leb, eqb-false,
 use Rattle.sorts.specs.declared.Prin.{Prin}
 use Rattle.sorts.specs.declared.Status.TheVariants.{Trusted, Issued, Provisional}
 use Rattle.sorts.specs.Numbers.{depths, conditions, packs, principals, properties, speakers}
+use Rattle.sorts.specs.declared.Refusal.TheVariants as refusal
+use Rattle.sorts.specs.declared.Refusal.{Refusal}
+use Rattle.sorts.specs.Refusals.{refusal_number}
 use Rattle.rows.specs.Written.{Grant, Conds, Concl}
 use Rattle.ranges.specs.declared.Scope.{Scope}
+use Rattle.ranges.specs.declared.Header.{Header}
 use Rattle.frames.specs.declared.Kind.{Kind}
 use Rattle.frames.specs.declared.Kind.TheVariants.{Tg, St, Li, Wd, Qu, Pl, Cf, Pv}
-use Rattle.ranges.specs.Bytes.{Outcome, got, refused, and_then, byte_at, upto, declared, principal, pack, tag, Header, header}
+use Rattle.ranges.specs.Bytes.{Outcome, got, refused, and_then, byte_at, upto, declared, principal, pack, tag, header}
 use Rattle.grants.specs.Grants.{read_property, read_packed, read_issue, read_concl, read_conds, read_with, read_grant}
 use Rattle.frames.specs.Frames.{letters_of, kinds, kind_with, stated, Frame, holds, ends, sized, marked, frame, frame_length, extent}
 use Rattle.contents.specs.Records.{Record, enter, remove, confirm, preview, read_entry, read_licence, nothing_declared, read_query, read_content}
@@ -30,8 +34,8 @@ use Rattle.exact.proofs.Contents.{ContentFound, content_found, content_written}
 -- What is found in c, and in c with the bytes b and y after it. Where c is too short and FF follows, which fits nowhere, 3 is found.
 data Alike (c : List ℕ) (b : ℕ) (y : List ℕ) (A : Type 0) : Outcome A → Outcome A → Type 0 where
   same : (a : A) (n : ℕ) → n ≤ length c → Alike c b y A (got a n) (got a n)
-  fault : (k : ℕ) → 3 ≤ k → k ≤ 5 → Alike c b y A (refused k) (refused k)
-  short : (o : Outcome A) → (b ≡ 255 → o ≡ refused 3) → Alike c b y A (refused 1) o
+  fault : (k : Refusal) → 3 ≤ refusal_number k → refusal_number k ≤ 5 → Alike c b y A (refused k) (refused k)
+  short : (o : Outcome A) → (b ≡ 255 → o ≡ refused refusal.Range) → Alike c b y A (refused refusal.Missing) o
 
 module _ (c : List ℕ) (b : ℕ) (y : List ℕ) where
   and_then_lem : {A B : Type 0} (o o' : Outcome A) (f g : A → ℕ → Outcome B) → Alike c b y A o o' →
@@ -44,11 +48,11 @@ module _ (c : List ℕ) (b : ℕ) (y : List ℕ) where
   either true o p o' p' h k = h
   either false o p o' p' h k = k
 
-  three : {A : Type 0} → Alike c b y A (refused 3) (refused 3)
-  three = fault 3 (omega arith) (omega arith)
+  three : {A : Type 0} → Alike c b y A (refused refusal.Range) (refused refusal.Range)
+  three = fault refusal.Range (omega arith) (omega arith)
 
   is_declared : (t : Bool) (x n : ℕ) → n ≤ length c → Alike c b y ℕ (declared t x n) (declared t x n)
-  is_declared t x n h = either t _ _ _ _ (same x n h) (fault 4 (omega arith) (omega arith))
+  is_declared t x n h = either t _ _ _ _ (same x n h) (fault refusal.Variable (omega arith) (omega arith))
 
   byte_within : (at : ℕ) → at < length c → (byte_at c at ≡ got (get_or c at 0) (at + 1)) × (byte_at (c ++ (b ∷ y)) at ≡ got (get_or c at 0) (at + 1))
   unfolding byte_at
@@ -56,14 +60,14 @@ module _ (c : List ℕ) (b : ℕ) (y : List ℕ) where
       let l : at < length (c ++ (b ∷ y)) = omega (arith, length-append c (b ∷ y)) in
       (rw (lt-ltb at (length c) h), rw (lt-ltb at (length (c ++ (b ∷ y))) l, get_or-append c (b ∷ y) 0 at h))
 
-  byte_beyond : (byte_at c (length c) ≡ refused 1) × (byte_at (c ++ (b ∷ y)) (length c) ≡ got b (length c + 1))
+  byte_beyond : (byte_at c (length c) ≡ refused refusal.Missing) × (byte_at (c ++ (b ∷ y)) (length c) ≡ got b (length c + 1))
   unfolding byte_at
   byte_beyond =
       let l : length c < length (c ++ (b ∷ y)) = omega (arith, length-append c (b ∷ y)) in
       (rw (le-ltb (length c) (length c) (omega arith)), rw (lt-ltb (length c) (length (c ++ (b ∷ y))) l, get_or-append_seam c b y 0))
 
   -- a byte and a test of it
-  byte_alike : (f : ℕ → ℕ → Outcome ℕ) (at : ℕ) → at ≤ length c → ((x n : ℕ) → n ≤ length c → Alike c b y ℕ (f x n) (f x n)) → ((n : ℕ) → f 255 n ≡ refused 3) →
+  byte_alike : (f : ℕ → ℕ → Outcome ℕ) (at : ℕ) → at ≤ length c → ((x n : ℕ) → n ≤ length c → Alike c b y ℕ (f x n) (f x n)) → ((n : ℕ) → f 255 n ≡ refused refusal.Range) →
       Alike c b y ℕ (and_then (byte_at c at) f) (and_then (byte_at (c ++ (b ∷ y)) at) f)
   byte_alike f at h k ff = go (ltb at (length c)) refl
     where
@@ -158,7 +162,7 @@ module _ (c : List ℕ) (b : ℕ) (y : List ℕ) where
 
   grant_alike : (left : ℕ) → Inner (read_grant left c) (read_grant left (c ++ (b ∷ y)))
   unfolding read_grant
-  grant_alike zero at h = fault 5 (omega arith) (omega arith)
+  grant_alike zero at h = fault refusal.Depth (omega arith) (omega arith)
   grant_alike (suc below) at h = with_alike (read_grant below c) (read_grant below (c ++ (b ∷ y))) (grant_alike below) at h
 
   entry_alike : (r : Grant → Record) (at : ℕ) → at ≤ length c → Alike c b y Record (read_entry r c at) (read_entry r (c ++ (b ∷ y)) at)
@@ -185,7 +189,7 @@ module _ (c : List ℕ) (b : ℕ) (y : List ℕ) where
   content_alike Pv = licence_alike preview 0 (omega arith)
   content_alike Qu = query_alike 0 (omega arith)
 
-not_both : {A B : Type 0} {a : A} {n k : ℕ} → got a n ≡ refused k → B
+not_both : {A B : Type 0} {a : A} {n : ℕ} {k : Refusal} → got a n ≡ refused k → B
 not_both e = let z : ◌≡◌ {A = ℕ} 0 1 = cc in absurd (omega arith)
 
 -- A content's faults: what is found in it, by what its readers find.
@@ -195,8 +199,17 @@ module _ (k : Kind) (c : List ℕ) where
   fitted_at o e = ap (fitted (length c)) e
 
   -- a fault other than a missing byte stays
-  kept : (j : ℕ) → 3 ≤ j → fitted (length c) (refused j) ≡ refused j
-  kept j h = rw (ne_eqb j 1 (λ e. omega arith))
+  kept : (j : Refusal) → 3 ≤ refusal_number j → fitted (length c) (refused j) ≡ refused j
+  kept refusal.Missing h = absurd (omega arith)
+  kept refusal.Mark h = refl
+  kept refusal.Range h = refl
+  kept refusal.Variable h = refl
+  kept refusal.Depth h = refl
+  kept refusal.Full h = refl
+  kept refusal.Absent h = refl
+  kept refusal.Length h = refl
+  kept refusal.Form h = refl
+  kept refusal.Content h = refl
 
   -- bytes are left over
   left_over : (r : Record) (n : ℕ) → n ≤ length c → (n ≡ length c → ⊥) → read_content k c ≡ got r n → NeedsFewer k c
@@ -211,113 +224,113 @@ module _ (k : Kind) (c : List ℕ) where
           absurd (ne (omega (arith, f.spelled.ends, ap length q, length-append (content_of r) [])))
       go (x ∷ l) p = record { what = r; kind = f.kind; allowed = f.allowed; over = x; more = l; bytes = f.spelled.rest ∙ ap (λ (l : List ℕ). content_of r ++ l) p }
 
-  ten_means : read_whole k c ≡ refused 10 → NeedsFewer k c ⊎ NeedsMore k c
+  ten_means : read_whole k c ≡ refused refusal.Content → NeedsFewer k c ⊎ NeedsMore k c
   ten_means e = go (read_content k c) (read_content k (c ++ (255 ∷ []))) refl refl (content_alike c 255 [] k)
     where
-      found : (r : Record) (n : ℕ) (t : Bool) → n ≤ length c → read_content k c ≡ got r n → eqb n (length c) ≡ t → cond t (got r n) (refused 10) ≡ refused 10 → NeedsFewer k c ⊎ NeedsMore k c
+      found : (r : Record) (n : ℕ) (t : Bool) → n ≤ length c → read_content k c ≡ got r n → eqb n (length c) ≡ t → cond t (got r n) (refused refusal.Content) ≡ refused refusal.Content → NeedsFewer k c ⊎ NeedsMore k c
       found r n true h p q z = not_both z
       found r n false h p q z = inl (left_over r n h (eqb-false n (length c) q) p)
 
       go : (o o' : Outcome Record) → read_content k c ≡ o → read_content k (c ++ (255 ∷ [])) ≡ o' → Alike c 255 [] Record o o' → NeedsFewer k c ⊎ NeedsMore k c
       go o o' p q (same r n h) = found r n (eqb n (length c)) h p refl (sym (fitted_at (got r n) p) ∙ e)
       go o o' p q (fault j h i) =
-          let z : refused j ≡ refused 10 = sym (kept j h) ∙ sym (fitted_at (refused j) p) ∙ e in
-          let w : j ≡ 10 = cc in
-          absurd (omega arith)
+          let z : refused j ≡ refused refusal.Content = sym (kept j h) ∙ sym (fitted_at (refused j) p) ∙ e in
+          let w : j ≡ refusal.Content = cc in
+          absurd (omega (arith, ap refusal_number w))
       go o o' p q (short d h) =
-          let w : d ≡ refused 3 = h refl in
+          let w : d ≡ refused refusal.Range = h refl in
           inr (record { beyond = 255 ∷ []; changes = λ x. let z : ◌≡◌ {A = ℕ} 1 3 = cc in omega arith })
 
-  fewer_ten : NeedsFewer k c → read_whole k c ≡ refused 10
+  fewer_ten : NeedsFewer k c → read_whole k c ≡ refused refusal.Content
   fewer_ten f =
       let w = content_of f.what in
       let g : read_content k c ≡ got f.what (length w) = rw (f.bytes, ← f.kind) (content_written f.what (f.over ∷ f.more) f.allowed) in
       let l : length w ≡ length c → ⊥ = λ q. omega (arith, length-append w (f.over ∷ f.more), ap length f.bytes) in
       fitted_at (got f.what (length w)) g ∙ rw (ne_eqb (length w) (length c) l)
 
-  more_ten : NeedsMore k c → read_whole k c ≡ refused 10
+  more_ten : NeedsMore k c → read_whole k c ≡ refused refusal.Content
   more_ten f = split f.beyond f.changes
     where
       go : (b : ℕ) (y : List ℕ) (o o' : Outcome Record) → read_content k c ≡ o → read_content k (c ++ (b ∷ y)) ≡ o' → Alike c b y Record o o' →
-          (read_content k (c ++ (b ∷ y)) ≡ read_content k c → ⊥) → read_whole k c ≡ refused 10
+          (read_content k (c ++ (b ∷ y)) ≡ read_content k c → ⊥) → read_whole k c ≡ refused refusal.Content
       go b y o o' p q (same r n h) ne = absurd (ne (q ∙ sym p))
       go b y o o' p q (fault j h i) ne = absurd (ne (q ∙ sym p))
-      go b y o o' p q (short d h) ne = fitted_at (refused 1) p
+      go b y o o' p q (short d h) ne = fitted_at (refused refusal.Missing) p
 
-      split : (y : List ℕ) → (read_content k (c ++ y) ≡ read_content k c → ⊥) → read_whole k c ≡ refused 10
+      split : (y : List ℕ) → (read_content k (c ++ y) ≡ read_content k c → ⊥) → read_whole k c ≡ refused refusal.Content
       split [] ne = absurd (ne (ap (read_content k) (append-nil c)))
       split (b ∷ y) ne = go b y (read_content k c) (read_content k (c ++ (b ∷ y))) refl refl (content_alike c b y k) ne
 
   -- 10 exactly when the content needs fewer or more bytes than stated
-  pub ten : (read_whole k c ≡ refused 10) ↔ (NeedsFewer k c ⊎ NeedsMore k c)
+  pub ten : (read_whole k c ≡ refused refusal.Content) ↔ (NeedsFewer k c ⊎ NeedsMore k c)
   ten = (ten_means, λ h. back h)
     where
-      back : NeedsFewer k c ⊎ NeedsMore k c → read_whole k c ≡ refused 10
+      back : NeedsFewer k c ⊎ NeedsMore k c → read_whole k c ≡ refused refusal.Content
       back (inl f) = fewer_ten f
       back (inr f) = more_ten f
 
   -- a content's refusal is 3, 4, 5 or 10
-  pub content_numbers : (j : ℕ) → read_whole k c ≡ refused j → ((3 ≤ j) × (j ≤ 5)) ⊎ (j ≡ 10)
+  pub content_numbers : (j : Refusal) → read_whole k c ≡ refused j → ((3 ≤ refusal_number j) × (refusal_number j ≤ 5)) ⊎ (j ≡ refusal.Content)
   content_numbers j e = go (read_content k c) (read_content k (c ++ (255 ∷ []))) refl (content_alike c 255 [] k)
     where
-      found : (r : Record) (n : ℕ) (t : Bool) → cond t (got r n) (refused 10) ≡ refused j → ((3 ≤ j) × (j ≤ 5)) ⊎ (j ≡ 10)
+      found : (r : Record) (n : ℕ) (t : Bool) → cond t (got r n) (refused refusal.Content) ≡ refused j → ((3 ≤ refusal_number j) × (refusal_number j ≤ 5)) ⊎ (j ≡ refusal.Content)
       found r n true z = not_both z
       found r n false z = inr (cc)
 
-      go : (o o' : Outcome Record) → read_content k c ≡ o → Alike c 255 [] Record o o' → ((3 ≤ j) × (j ≤ 5)) ⊎ (j ≡ 10)
+      go : (o o' : Outcome Record) → read_content k c ≡ o → Alike c 255 [] Record o o' → ((3 ≤ refusal_number j) × (refusal_number j ≤ 5)) ⊎ (j ≡ refusal.Content)
       go o o' p (same r n h) = found r n (eqb n (length c)) (sym (fitted_at (got r n) p) ∙ e)
       go o o' p (fault i h l) =
           let z : refused i ≡ refused j = sym (kept i h) ∙ sym (fitted_at (refused i) p) ∙ e in
           let w : i ≡ j = cc in
-          inl (omega arith, omega arith)
+          inl (omega (arith, ap refusal_number w), omega (arith, ap refusal_number w))
       go o o' p (short d h) =
-          let z : refused 10 ≡ refused j = sym (fitted_at (refused 1) p) ∙ e in
+          let z : refused refusal.Content ≡ refused j = sym (fitted_at (refused refusal.Missing) p) ∙ e in
           inr (cc)
 
   -- "found from left to right like the others": a refusal other than 10 is decided by the content's own bytes, whatever would follow
-  pub decided : (j : ℕ) → ((read_whole k c ≡ refused j) × (j ≡ 10 → ⊥)) ↔ ((y : List ℕ) → read_content k (c ++ y) ≡ refused j)
+  pub decided : (j : Refusal) → ((read_whole k c ≡ refused j) × (j ≡ refusal.Content → ⊥)) ↔ ((y : List ℕ) → read_content k (c ++ y) ≡ refused j)
   decided j = (λ h. there h.0 h.1, λ h. back h)
     where
       go : (b : ℕ) (y : List ℕ) (o o' : Outcome Record) → read_content k c ≡ o → read_content k (c ++ (b ∷ y)) ≡ o' → Alike c b y Record o o' →
-          read_whole k c ≡ refused j → (j ≡ 10 → ⊥) → o ≡ refused j × o' ≡ refused j
+          read_whole k c ≡ refused j → (j ≡ refusal.Content → ⊥) → o ≡ refused j × o' ≡ refused j
       go b y o o' p q (same r n h) e ne = found (eqb n (length c)) (sym (fitted_at (got r n) p) ∙ e)
         where
-          found : (t : Bool) → cond t (got r n) (refused 10) ≡ refused j → got r n ≡ refused j × got r n ≡ refused j
+          found : (t : Bool) → cond t (got r n) (refused refusal.Content) ≡ refused j → got r n ≡ refused j × got r n ≡ refused j
           found true z = not_both z
           found false z = absurd (ne (cc))
       go b y o o' p q (fault i h l) e ne =
           let z : refused i ≡ refused j = sym (kept i h) ∙ sym (fitted_at (refused i) p) ∙ e in
           (z, z)
       go b y o o' p q (short d h) e ne =
-          let z : refused 10 ≡ refused j = sym (fitted_at (refused 1) p) ∙ e in
+          let z : refused refusal.Content ≡ refused j = sym (fitted_at (refused refusal.Missing) p) ∙ e in
           absurd (ne (cc))
 
-      there : read_whole k c ≡ refused j → (j ≡ 10 → ⊥) → (y : List ℕ) → read_content k (c ++ y) ≡ refused j
+      there : read_whole k c ≡ refused j → (j ≡ refusal.Content → ⊥) → (y : List ℕ) → read_content k (c ++ y) ≡ refused j
       there e ne [] = ap (read_content k) (append-nil c) ∙ (go 255 [] (read_content k c) (read_content k (c ++ (255 ∷ []))) refl refl (content_alike c 255 [] k) e ne).0
       there e ne (b ∷ y) = (go b y (read_content k c) (read_content k (c ++ (b ∷ y))) refl refl (content_alike c b y k) e ne).1
 
       from : (o o' : Outcome Record) → read_content k c ≡ o → read_content k (c ++ (255 ∷ [])) ≡ o' → Alike c 255 [] Record o o' → o ≡ refused j → o' ≡ refused j →
-          (read_whole k c ≡ refused j) × (j ≡ 10 → ⊥)
+          (read_whole k c ≡ refused j) × (j ≡ refusal.Content → ⊥)
       from o o' p q (same r n h) e d = not_both e
       from o o' p q (fault i h l) e d =
           let w : i ≡ j = cc in
-          (fitted_at (refused i) p ∙ kept i h ∙ e, λ z. omega arith)
+          (fitted_at (refused i) p ∙ kept i h ∙ e, λ z. omega (arith, ap refusal_number w, ap refusal_number z))
       from o o' p q (short u h) e d =
-          let w : u ≡ refused 3 = h refl in
+          let w : u ≡ refused refusal.Range = h refl in
           let z : ◌≡◌ {A = ℕ} 1 3 = cc in
           absurd (omega arith)
 
-      back : ((y : List ℕ) → read_content k (c ++ y) ≡ refused j) → (read_whole k c ≡ refused j) × (j ≡ 10 → ⊥)
+      back : ((y : List ℕ) → read_content k (c ++ y) ≡ refused j) → (read_whole k c ≡ refused j) × (j ≡ refusal.Content → ⊥)
       back h = from (read_content k c) (read_content k (c ++ (255 ∷ []))) refl refl (content_alike c 255 [] k) (ap (read_content k) (sym (append-nil c)) ∙ h []) (h (255 ∷ []))
 
 -- a content that is cut short is 10, wherever it is cut
-pub cut_ten : (r : Record) (c : List ℕ) (b : ℕ) (y : List ℕ) → AllowedRecord r → c ++ (b ∷ y) ≡ content_of r → read_whole (kind_of r) c ≡ refused 10
+pub cut_ten : (r : Record) (c : List ℕ) (b : ℕ) (y : List ℕ) → AllowedRecord r → c ++ (b ∷ y) ≡ content_of r → read_whole (kind_of r) c ≡ refused refusal.Content
 cut_ten r c b y a e = go (read_content (kind_of r) c) (read_content (kind_of r) (c ++ (b ∷ y))) refl refl (content_alike c b y (kind_of r))
   where
     whole : read_content (kind_of r) (c ++ (b ∷ y)) ≡ got r (length (c ++ (b ∷ y)))
     whole = rw e (ap (read_content (kind_of r)) (sym (append-nil (content_of r))) ∙ content_written r [] a)
 
-    go : (o o' : Outcome Record) → read_content (kind_of r) c ≡ o → read_content (kind_of r) (c ++ (b ∷ y)) ≡ o' → Alike c b y Record o o' → read_whole (kind_of r) c ≡ refused 10
+    go : (o o' : Outcome Record) → read_content (kind_of r) c ≡ o → read_content (kind_of r) (c ++ (b ∷ y)) ≡ o' → Alike c b y Record o o' → read_whole (kind_of r) c ≡ refused refusal.Content
     go o o' p q (same d n h) =
         let z : got d n ≡ got r (length (c ++ (b ∷ y))) = sym q ∙ whole in
         let w : n ≡ length (c ++ (b ∷ y)) = cc in
@@ -325,15 +338,15 @@ cut_ten r c b y a e = go (read_content (kind_of r) c) (read_content (kind_of r) 
     go o o' p q (fault j h i) =
         let z : refused j ≡ got r (length (c ++ (b ∷ y))) = sym q ∙ whole in
         not_both (sym z)
-    go o o' p q (short d h) = fitted_at (kind_of r) c (refused 1) p
+    go o o' p q (short d h) = fitted_at (kind_of r) c (refused refusal.Missing) p
 
 -- A refusal that is found in a record, and where: 1 and 2 at its frame, and then no byte is used; 3, 4, 5 and 10 in its content, and
 -- then its whole length is, which is within the input.
-pub data Turned (s : List ℕ) (j : ℕ) : Type 0 where
-  at_frame : frame s ≡ ends j → (j ≡ 1) ⊎ (j ≡ 2) → extent s ≡ 0 → Turned s j
-  in_content : ((3 ≤ j) × (j ≤ 5)) ⊎ (j ≡ 10) → 4 ≤ extent s → extent s ≤ length s → Turned s j
+pub data Turned (s : List ℕ) (j : Refusal) : Type 0 where
+  at_frame : frame s ≡ ends j → (j ≡ refusal.Missing) ⊎ (j ≡ refusal.Mark) → extent s ≡ 0 → Turned s j
+  in_content : ((3 ≤ refusal_number j) × (refusal_number j ≤ 5)) ⊎ (j ≡ refusal.Content) → 4 ≤ extent s → extent s ≤ length s → Turned s j
 
-pub fault_at : (s : List ℕ) (j : ℕ) → read_record s ≡ refused j → Turned s j
+pub fault_at : (s : List ℕ) (j : Refusal) → read_record s ≡ refused j → Turned s j
 unfolding read_record
 fault_at s j e = go (frame s) refl e
   where
@@ -353,12 +366,12 @@ fault_at s j e = go (frame s) refl e
         at_frame q (ends_numbers s j q) (extent_ends s j q)
 
 -- A fault is one of the refusals 1 to 5, or 10.
-pub fault_range : (s : List ℕ) (j : ℕ) → read_record s ≡ refused j → ((1 ≤ j) × (j ≤ 5)) ⊎ (j ≡ 10)
+pub fault_range : (s : List ℕ) (j : Refusal) → read_record s ≡ refused j → ((1 ≤ refusal_number j) × (refusal_number j ≤ 5)) ⊎ (j ≡ refusal.Content)
 fault_range s j e = go (fault_at s j e)
   where
-    go : Turned s j → ((1 ≤ j) × (j ≤ 5)) ⊎ (j ≡ 10)
-    go (at_frame f (inl h) x) = inl (omega arith, omega arith)
-    go (at_frame f (inr h) x) = inl (omega arith, omega arith)
+    go : Turned s j → ((1 ≤ refusal_number j) × (refusal_number j ≤ 5)) ⊎ (j ≡ refusal.Content)
+    go (at_frame f (inl h) x) = inl (omega (arith, ap refusal_number h), omega (arith, ap refusal_number h))
+    go (at_frame f (inr h) x) = inl (omega (arith, ap refusal_number h), omega (arith, ap refusal_number h))
     go (in_content (inl h) l x) = inl (omega (arith, h.0), omega (arith, h.1))
     go (in_content (inr h) l x) = inr h
 
@@ -383,7 +396,7 @@ no_letter Pl = refl
 no_letter Cf = refl
 no_letter Pv = refl
 
-no_mark : (ks : List Kind) (a n : ℕ) → kind_with ks a 255 n ≡ refused 2
+no_mark : (ks : List Kind) (a n : ℕ) → kind_with ks a 255 n ≡ refused refusal.Mark
 unfolding kind_with
 no_mark [] a n = refl
 no_mark (k ∷ ks) a n = rw (no_letter k, and_no (eqb a (get_or (letters_of k) 0 0))) (no_mark ks a n)
@@ -393,57 +406,57 @@ no_mark (k ∷ ks) a n = rw (no_letter k, and_no (eqb a (get_or (letters_of k) 0
     and_no false = refl
 
 -- a record with a frame is not refused with 1
-held : (s : List ℕ) (k : Kind) (c : List ℕ) → frame s ≡ holds k c → read_record s ≡ refused 1 → ⊥
-held s k c f e = go (fault_at s 1 e)
+held : (s : List ℕ) (k : Kind) (c : List ℕ) → frame s ≡ holds k c → read_record s ≡ refused refusal.Missing → ⊥
+held s k c f e = go (fault_at s refusal.Missing e)
   where
-    go : Turned s 1 → ⊥
-    go (at_frame g h x) = let z : ends 1 ≡ holds k c = sym g ∙ f in let w : ◌≡◌ {A = ℕ} 0 1 = cc in omega arith
+    go : Turned s refusal.Missing → ⊥
+    go (at_frame g h x) = let z : ends refusal.Missing ≡ holds k c = sym g ∙ f in let w : ◌≡◌ {A = ℕ} 0 1 = cc in omega arith
     go (in_content (inl h) l x) = omega (arith, h.0)
-    go (in_content (inr h) l x) = omega (arith, h)
+    go (in_content (inr h) l x) = omega (arith, ap refusal_number h)
 
-marked_two : (a b : ℕ) (s : List ℕ) → kind_with kinds a b 2 ≡ refused 2 → read_record (a ∷ b ∷ s) ≡ refused 2
+marked_two : (a b : ℕ) (s : List ℕ) → kind_with kinds a b 2 ≡ refused refusal.Mark → read_record (a ∷ b ∷ s) ≡ refused refusal.Mark
 unfolding read_record
 marked_two a b s e = ap framed (after_letters a b s ∙ ap (λ (o : Outcome Kind). marked o (a ∷ b ∷ s)) e)
 
 -- bytes that complete what is cut
-more : (s : List ℕ) → read_record s ≡ refused 1 → (w : List ℕ) × (read_record (s ++ w) ≡ refused 1 → ⊥)
-more [] e = (255 ∷ 255 ∷ [], λ h. let z : refused 2 ≡ refused 1 = sym (marked_two 255 255 [] (no_mark kinds 255 2)) ∙ h in let w : ◌≡◌ {A = ℕ} 2 1 = cc in omega arith)
-more (a ∷ []) e = (255 ∷ [], λ h. let z : refused 2 ≡ refused 1 = sym (marked_two a 255 [] (no_mark kinds a 2)) ∙ h in let w : ◌≡◌ {A = ℕ} 2 1 = cc in omega arith)
+more : (s : List ℕ) → read_record s ≡ refused refusal.Missing → (w : List ℕ) × (read_record (s ++ w) ≡ refused refusal.Missing → ⊥)
+more [] e = (255 ∷ 255 ∷ [], λ h. let z : refused refusal.Mark ≡ refused refusal.Missing = sym (marked_two 255 255 [] (no_mark kinds 255 2)) ∙ h in let w : ◌≡◌ {A = ℕ} 2 1 = cc in omega arith)
+more (a ∷ []) e = (255 ∷ [], λ h. let z : refused refusal.Mark ≡ refused refusal.Missing = sym (marked_two a 255 [] (no_mark kinds a 2)) ∙ h in let w : ◌≡◌ {A = ℕ} 2 1 = cc in omega arith)
 more (a ∷ b ∷ s) e = go (kind_with kinds a b 2) refl
   where
-    there : (k : Kind) (high low : ℕ) (c : List ℕ) → kind_with kinds a b 2 ≡ got k 2 → stated high low ≤ length c → read_record (a ∷ b ∷ high ∷ low ∷ c) ≡ refused 1 → ⊥
+    there : (k : Kind) (high low : ℕ) (c : List ℕ) → kind_with kinds a b 2 ≡ got k 2 → stated high low ≤ length c → read_record (a ∷ b ∷ high ∷ low ∷ c) ≡ refused refusal.Missing → ⊥
     there k high low c m l =
         held (a ∷ b ∷ high ∷ low ∷ c) k (take (stated high low) c)
         (ap (λ (x : List ℕ). frame (a ∷ b ∷ high ∷ low ∷ x)) (sym (take-append-drop (stated high low) c)) ∙
         opens_frame a b high low k (take (stated high low) c) (drop (stated high low) c) m (sym (length-take-le (stated high low) c l)))
 
-    rest : (k : Kind) (t : List ℕ) → kind_with kinds a b 2 ≡ got k 2 → (w : List ℕ) × (read_record ((a ∷ b ∷ t) ++ w) ≡ refused 1 → ⊥)
+    rest : (k : Kind) (t : List ℕ) → kind_with kinds a b 2 ≡ got k 2 → (w : List ℕ) × (read_record ((a ∷ b ∷ t) ++ w) ≡ refused refusal.Missing → ⊥)
     rest k [] m = (0 ∷ 0 ∷ [], there k 0 0 [] m (omega arith))
     rest k (high ∷ []) m = (0 ∷ replicate (stated high 0) 0, there k high 0 (replicate (stated high 0) 0) m (omega (arith, length-replicate {A = ℕ} (stated high 0) 0)))
     rest k (high ∷ low ∷ c) m =
         (replicate (stated high low) 0, there k high low (c ++ replicate (stated high low) 0) m (omega (arith, length-append c (replicate (stated high low) 0), length-replicate {A = ℕ} (stated high low) 0)))
 
-    go : (o : Outcome Kind) → kind_with kinds a b 2 ≡ o → (w : List ℕ) × (read_record ((a ∷ b ∷ s) ++ w) ≡ refused 1 → ⊥)
+    go : (o : Outcome Kind) → kind_with kinds a b 2 ≡ o → (w : List ℕ) × (read_record ((a ∷ b ∷ s) ++ w) ≡ refused refusal.Missing → ⊥)
     go (got k n) m = rest k s (m ∙ ap (got k) (kind_letters kinds a b 2 k n m).1)
     go (refused j) m =
         let q = kind_none kinds a b 2 j m in
-        let z : refused 2 ≡ refused 1 = sym (marked_two a b s (m ∙ ap refused q)) ∙ e in
+        let z : refused refusal.Mark ≡ refused refusal.Missing = sym (marked_two a b s (m ∙ ap refused q)) ∙ e in
         let w : ◌≡◌ {A = ℕ} 2 1 = cc in
         absurd (omega arith)
 
 -- a mark that is no record's stays, whatever follows
-two_stays : (s w : List ℕ) → frame s ≡ ends 2 → read_record (s ++ w) ≡ read_record s
+two_stays : (s w : List ℕ) → frame s ≡ ends refusal.Mark → read_record (s ++ w) ≡ read_record s
 unfolding read_record
-two_stays [] w e = let z : ends 1 ≡ ends 2 = sym frame_none ∙ e in let v : ◌≡◌ {A = ℕ} 1 2 = cc in absurd (omega arith)
-two_stays (a ∷ []) w e = let z : ends 1 ≡ ends 2 = sym (frame_one a) ∙ e in let v : ◌≡◌ {A = ℕ} 1 2 = cc in absurd (omega arith)
+two_stays [] w e = let z : ends refusal.Missing ≡ ends refusal.Mark = sym frame_none ∙ e in let v : ◌≡◌ {A = ℕ} 1 2 = cc in absurd (omega arith)
+two_stays (a ∷ []) w e = let z : ends refusal.Missing ≡ ends refusal.Mark = sym (frame_one a) ∙ e in let v : ◌≡◌ {A = ℕ} 1 2 = cc in absurd (omega arith)
 two_stays (a ∷ b ∷ s) w e = go (kind_with kinds a b 2) refl
   where
-    held_two : (k : Kind) (t : List ℕ) → sized k t ≡ ends 2 → ⊥
+    held_two : (k : Kind) (t : List ℕ) → sized k t ≡ ends refusal.Mark → ⊥
     held_two k [] e = let v : ◌≡◌ {A = ℕ} 1 2 = cc in omega arith
     held_two k (x ∷ []) e = let v : ◌≡◌ {A = ℕ} 1 2 = cc in omega arith
     held_two k (high ∷ low ∷ t) e = cut (leb (stated high low) (length t)) e
       where
-        cut : (v : Bool) → cond v (holds k (take (stated high low) t)) (ends 1) ≡ ends 2 → ⊥
+        cut : (v : Bool) → cond v (holds k (take (stated high low) t)) (ends refusal.Missing) ≡ ends refusal.Mark → ⊥
         cut true e = let u : ◌≡◌ {A = ℕ} 0 1 = cc in omega arith
         cut false e = let u : ◌≡◌ {A = ℕ} 1 2 = cc in omega arith
 
@@ -453,20 +466,20 @@ two_stays (a ∷ b ∷ s) w e = go (kind_with kinds a b 2) refl
         ap framed (after_letters a b (s ++ w) ∙ ap (λ (o : Outcome Kind). marked o (a ∷ b ∷ (s ++ w))) m) ∙
         sym (ap framed (after_letters a b s ∙ ap (λ (o : Outcome Kind). marked o (a ∷ b ∷ s)) m))
 
-at_ends : (s : List ℕ) (j : ℕ) → frame s ≡ ends j → read_record s ≡ refused j
+at_ends : (s : List ℕ) (j : Refusal) → frame s ≡ ends j → read_record s ≡ refused j
 unfolding read_record
 at_ends s j e = ap framed e
 
-pub missing : (s : List ℕ) → (read_record s ≡ refused 1) ↔ ((w : List ℕ) × (read_record (s ++ w) ≡ read_record s → ⊥))
+pub missing : (s : List ℕ) → (read_record s ≡ refused refusal.Missing) ↔ ((w : List ℕ) × (read_record (s ++ w) ≡ read_record s → ⊥))
 missing s = (λ e. let m = more s e in (m.0, λ h. m.1 (h ∙ e)), λ x. back x.0 x.1)
   where
-    back : (w : List ℕ) → (read_record (s ++ w) ≡ read_record s → ⊥) → read_record s ≡ refused 1
+    back : (w : List ℕ) → (read_record (s ++ w) ≡ read_record s → ⊥) → read_record s ≡ refused refusal.Missing
     back w d = go (frame s) refl
       where
-        one : (j : ℕ) → frame s ≡ ends j → (j ≡ 1) ⊎ (j ≡ 2) → read_record s ≡ refused 1
-        one j e (inl h) = at_ends s 1 (e ∙ ap ends h)
+        one : (j : Refusal) → frame s ≡ ends j → (j ≡ refusal.Missing) ⊎ (j ≡ refusal.Mark) → read_record s ≡ refused refusal.Missing
+        one j e (inl h) = at_ends s refusal.Missing (e ∙ ap ends h)
         one j e (inr h) = absurd (d (two_stays s w (e ∙ ap ends h)))
 
-        go : (f : Frame) → frame s ≡ f → read_record s ≡ refused 1
+        go : (f : Frame) → frame s ≡ f → read_record s ≡ refused refusal.Missing
         go (holds k c) e = absurd (d (stays s w k c e).0)
         go (ends j) e = one j e (ends_numbers s j e)

@@ -14,6 +14,8 @@ use Rattle.ranges.specs.Bytes.{Outcome, got, refused}
 use Rattle.frames.specs.Frames.{letters_of, kinds, kind_with, stated, Frame, holds, ends, sized, marked, frame, frame_length, extent}
 use Rattle.exact.specs.Writing.{in_frame}
 use Rattle.frames.proofs.Letters.{first, second, two_letters, kind_again, kind_letters, kind_none, letters_read, mark_none, mark_one}
+use Rattle.sorts.specs.declared.Refusal.TheVariants as refusal
+use Rattle.sorts.specs.declared.Refusal.{Refusal}
 
 -- The bytes of a frame that holds the content c, with others after them.
 pub record Opens (s : List ℕ) (k : Kind) (c : List ℕ) : Type 0 where
@@ -27,14 +29,14 @@ pub record Opens (s : List ℕ) (k : Kind) (c : List ℕ) : Type 0 where
   pub size : stated high low ≡ length c
   pub bytes : s ≡ a ∷ b ∷ high ∷ low ∷ (c ++ after)
 
-no_frame : {A : Type 0} (f : Frame) (j : ℕ) (k : Kind) (c : List ℕ) → f ≡ ends j → f ≡ holds k c → A
+no_frame : {A : Type 0} (f : Frame) (j : Refusal) (k : Kind) (c : List ℕ) → f ≡ ends j → f ≡ holds k c → A
 no_frame f j k c p e = let z : ends j ≡ holds k c = sym p ∙ e in let w : ◌≡◌ {A = ℕ} 0 1 = cc in absurd (omega arith)
 
-pub frame_none : frame [] ≡ ends 1
+pub frame_none : frame [] ≡ ends refusal.Missing
 unfolding frame
 frame_none = ap (λ (o : Outcome Kind). marked o []) mark_none
 
-pub frame_one : (a : ℕ) → frame (a ∷ []) ≡ ends 1
+pub frame_one : (a : ℕ) → frame (a ∷ []) ≡ ends refusal.Missing
 unfolding frame
 frame_one a = ap (λ (o : Outcome Kind). marked o (a ∷ [])) (mark_one a)
 
@@ -48,13 +50,13 @@ pub letters_frame : (k : Kind) (s : List ℕ) → frame (letters_of k ++ s) ≡ 
 letters_frame k s = rw (two_letters k) (after_letters (first k) (second k) s ∙ ap (λ (o : Outcome Kind). marked o (first k ∷ second k ∷ s)) (kind_again k 2))
 
 pub frame_opens : (s : List ℕ) (k : Kind) (c : List ℕ) → frame s ≡ holds k c → Opens s k c
-frame_opens [] k c e = no_frame (frame []) 1 k c frame_none e
-frame_opens (a ∷ []) k c e = no_frame (frame (a ∷ [])) 1 k c (frame_one a) e
+frame_opens [] k c e = no_frame (frame []) refusal.Missing k c frame_none e
+frame_opens (a ∷ []) k c e = no_frame (frame (a ∷ [])) refusal.Missing k c (frame_one a) e
 frame_opens (a ∷ b ∷ s) k c e = go (kind_with kinds a b 2) refl (sym (after_letters a b s) ∙ e)
   where
     fits : (high low : ℕ) (t : List ℕ) (d : Kind) (v : Bool) → leb (stated high low) (length t) ≡ v → kind_with kinds a b 2 ≡ got d 2 →
-        cond v (holds d (take (stated high low) t)) (ends 1) ≡ holds k c → Opens (a ∷ b ∷ high ∷ low ∷ t) k c
-    fits high low t d false q m e = no_frame (ends 1) 1 k c refl e
+        cond v (holds d (take (stated high low) t)) (ends refusal.Missing) ≡ holds k c → Opens (a ∷ b ∷ high ∷ low ∷ t) k c
+    fits high low t d false q m e = no_frame (ends refusal.Missing) refusal.Missing k c refl e
     fits high low t d true q m e =
         let l : stated high low ≤ length t = leb-true (stated high low) (length t) q in
         let w : take (stated high low) t ≡ c = cc in
@@ -72,8 +74,8 @@ frame_opens (a ∷ b ∷ s) k c e = go (kind_with kinds a b 2) refl (sym (after_
         }
 
     rest : (d : Kind) (t : List ℕ) → kind_with kinds a b 2 ≡ got d 2 → sized d t ≡ holds k c → Opens (a ∷ b ∷ t) k c
-    rest d [] m e = no_frame (ends 1) 1 k c refl e
-    rest d (x ∷ []) m e = no_frame (ends 1) 1 k c refl e
+    rest d [] m e = no_frame (ends refusal.Missing) refusal.Missing k c refl e
+    rest d (x ∷ []) m e = no_frame (ends refusal.Missing) refusal.Missing k c refl e
     rest d (high ∷ low ∷ t) m e = fits high low t d (leb (stated high low) (length t)) refl m e
 
     go : (o : Outcome Kind) → kind_with kinds a b 2 ≡ o → marked o (a ∷ b ∷ s) ≡ holds k c → Opens (a ∷ b ∷ s) k c
@@ -119,24 +121,24 @@ unfolding in_frame
 in_frame_length k c = rw (two_letters k) (omega arith)
 
 -- a frame's own refusals are 1 and 2
-pub ends_numbers : (s : List ℕ) (j : ℕ) → frame s ≡ ends j → (j ≡ 1) ⊎ (j ≡ 2)
-ends_numbers [] j e = inl (let z : ends 1 ≡ ends j = sym frame_none ∙ e in let w : 1 ≡ j = cc in sym w)
-ends_numbers (a ∷ []) j e = inl (let z : ends 1 ≡ ends j = sym (frame_one a) ∙ e in let w : 1 ≡ j = cc in sym w)
+pub ends_numbers : (s : List ℕ) (j : Refusal) → frame s ≡ ends j → (j ≡ refusal.Missing) ⊎ (j ≡ refusal.Mark)
+ends_numbers [] j e = inl (let z : ends refusal.Missing ≡ ends j = sym frame_none ∙ e in let w : refusal.Missing ≡ j = cc in sym w)
+ends_numbers (a ∷ []) j e = inl (let z : ends refusal.Missing ≡ ends j = sym (frame_one a) ∙ e in let w : refusal.Missing ≡ j = cc in sym w)
 ends_numbers (a ∷ b ∷ s) j e = go (kind_with kinds a b 2) refl (sym (after_letters a b s) ∙ e)
   where
-    one : ends 1 ≡ ends j → (j ≡ 1) ⊎ (j ≡ 2)
-    one e = let w : 1 ≡ j = cc in inl (sym w)
+    one : ends refusal.Missing ≡ ends j → (j ≡ refusal.Missing) ⊎ (j ≡ refusal.Mark)
+    one e = let w : refusal.Missing ≡ j = cc in inl (sym w)
 
-    fits : (v : Bool) (d : Kind) (c : List ℕ) → cond v (holds d c) (ends 1) ≡ ends j → (j ≡ 1) ⊎ (j ≡ 2)
+    fits : (v : Bool) (d : Kind) (c : List ℕ) → cond v (holds d c) (ends refusal.Missing) ≡ ends j → (j ≡ refusal.Missing) ⊎ (j ≡ refusal.Mark)
     fits true d c e = let w : ◌≡◌ {A = ℕ} 0 1 = cc in absurd (omega arith)
     fits false d c e = one e
 
-    rest : (d : Kind) (t : List ℕ) → sized d t ≡ ends j → (j ≡ 1) ⊎ (j ≡ 2)
+    rest : (d : Kind) (t : List ℕ) → sized d t ≡ ends j → (j ≡ refusal.Missing) ⊎ (j ≡ refusal.Mark)
     rest d [] e = one e
     rest d (x ∷ []) e = one e
     rest d (high ∷ low ∷ t) e = fits (leb (stated high low) (length t)) d (take (stated high low) t) e
 
-    go : (o : Outcome Kind) → kind_with kinds a b 2 ≡ o → marked o (a ∷ b ∷ s) ≡ ends j → (j ≡ 1) ⊎ (j ≡ 2)
+    go : (o : Outcome Kind) → kind_with kinds a b 2 ≡ o → marked o (a ∷ b ∷ s) ≡ ends j → (j ≡ refusal.Missing) ⊎ (j ≡ refusal.Mark)
     go (got d n) m e = rest d (drop n (a ∷ b ∷ s)) e
     go (refused i) m e = let w : i ≡ j = cc in inr (sym w ∙ kind_none kinds a b 2 i m)
 
@@ -145,6 +147,6 @@ pub extent_holds : (s : List ℕ) (k : Kind) (c : List ℕ) → frame s ≡ hold
 unfolding extent
 extent_holds s k c e = ap frame_length e
 
-pub extent_ends : (s : List ℕ) (j : ℕ) → frame s ≡ ends j → extent s ≡ 0
+pub extent_ends : (s : List ℕ) (j : Refusal) → frame s ≡ ends j → extent s ≡ 0
 unfolding extent
 extent_ends s j e = ap frame_length e

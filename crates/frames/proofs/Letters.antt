@@ -1,6 +1,6 @@
 -- The letters of a kind, and those of a record that is read.
 use Prim.Native.Nat.{ℕ}
-use mathlib.Core.Path.{◌≡◌, refl, sym, ap, ◌∙◌}
+use mathlib.Core.Path.{◌≡◌, refl, sym, ap, subst, ◌∙◌}
 use mathlib.Core.Bool.{Bool, true, false, ◌&&◌, cond}
 use mathlib.Core.List.{List, [], ◌∷◌}
 use native.Mathlib.Omega.{arith}
@@ -9,6 +9,8 @@ use lib.Dec.{eqb}
 use borrow.Author.Tests.{eqb-true, lt-ltb}
 use Rattle.frames.specs.declared.Kind.{Kind}
 use Rattle.frames.specs.declared.Kind.TheVariants.{Tg, St, Li, Wd, Qu, Pl, Cf, Pv}
+use Rattle.sorts.specs.declared.Refusal.{Refusal}
+use Rattle.sorts.specs.declared.Refusal.TheVariants.{Missing, Mark}
 use Rattle.ranges.specs.Bytes.{got, refused, byte_at}
 use Rattle.frames.specs.Frames.{letters_of, kinds, opens, kind_with, read_mark}
 
@@ -38,6 +40,30 @@ letters_are k a b e = go (eqb a (first k)) (eqb b (second k)) refl refl e
     go true false p q e = let z : ◌≡◌ {A = ℕ} 0 1 = cc in absurd (omega arith)
     go false u p q e = let z : ◌≡◌ {A = ℕ} 0 1 = cc in absurd (omega arith)
 
+opens_own : (k : Kind) → opens k (first k) (second k) ≡ true
+opens_own Tg = refl
+opens_own St = refl
+opens_own Li = refl
+opens_own Wd = refl
+opens_own Qu = refl
+opens_own Pl = refl
+opens_own Cf = refl
+opens_own Pv = refl
+
+-- two letters open a kind exactly where they are its letters
+pub opens_same : (k : Kind) (l : List ℕ) → letters_of k ≡ l → opens k (get_or l 0 0) (get_or l 1 0) ≡ true
+opens_same k l e = subst (λ (x : List ℕ). opens k (get_or x 0 0) (get_or x 1 0) ≡ true) e (opens_own k)
+
+pub opens_other : (k : Kind) (l : List ℕ) → length l ≡ 2 → (letters_of k ≡ l → ⊥) → opens k (get_or l 0 0) (get_or l 1 0) ≡ false
+opens_other k [] n d = absurd (omega arith)
+opens_other k (a ∷ []) n d = absurd (omega arith)
+opens_other k (a ∷ b ∷ c ∷ l) n d = absurd (omega arith)
+opens_other k (a ∷ b ∷ []) n d = go (opens k a b) refl
+  where
+    go : (t : Bool) → opens k a b ≡ t → opens k a b ≡ false
+    go true e = absurd (d (sym (letters_are k a b e)))
+    go false e = e
+
 -- no kind before it has them
 pub kind_again : (k : Kind) (n : ℕ) → kind_with kinds (first k) (second k) n ≡ got k n
 unfolding kind_with
@@ -62,12 +88,12 @@ kind_letters (j ∷ ks) a b n k m e = go (opens j a b) refl (kind_letters ks a b
     go false p h e = h e
 
 -- or 2 is said
-pub kind_none : (ks : List Kind) (a b n j : ℕ) → kind_with ks a b n ≡ refused j → j ≡ 2
+pub kind_none : (ks : List Kind) (a b n : ℕ) (j : Refusal) → kind_with ks a b n ≡ refused j → j ≡ Mark
 unfolding kind_with
 kind_none [] a b n j e = cc
 kind_none (k ∷ ks) a b n j e = go (opens k a b) (kind_none ks a b n j) e
   where
-    go : (t : Bool) → (kind_with ks a b n ≡ refused j → j ≡ 2) → cond t (got k n) (kind_with ks a b n) ≡ refused j → j ≡ 2
+    go : (t : Bool) → (kind_with ks a b n ≡ refused j → j ≡ Mark) → cond t (got k n) (kind_with ks a b n) ≡ refused j → j ≡ Mark
     go true h e = let z : ◌≡◌ {A = ℕ} 0 1 = cc in absurd (omega arith)
     go false h e = h e
 
@@ -84,16 +110,16 @@ pub letters_read : (a b : ℕ) (s : List ℕ) → read_mark (a ∷ b ∷ s) ≡ 
 unfolding read_mark
 letters_read a b s = rw (first_byte a (b ∷ s), second_byte a b s)
 
-pub mark_none : read_mark [] ≡ refused 1
+pub mark_none : read_mark [] ≡ refused Missing
 unfolding read_mark byte_at
 mark_none = refl
 
-pub mark_one : (a : ℕ) → read_mark (a ∷ []) ≡ refused 1
+pub mark_one : (a : ℕ) → read_mark (a ∷ []) ≡ refused Missing
 unfolding read_mark byte_at
 mark_one a = refl
 
 -- a kind that is read has the record's first bytes
 pub mark_spelt : (s : List ℕ) (k : Kind) (n : ℕ) → read_mark s ≡ got k n → letters_of k ≡ take 2 s
-mark_spelt [] k n e = let z : refused 1 ≡ got k n = sym mark_none ∙ e in let w : ◌≡◌ {A = ℕ} 0 1 = cc in absurd (omega arith)
-mark_spelt (a ∷ []) k n e = let z : refused 1 ≡ got k n = sym (mark_one a) ∙ e in let w : ◌≡◌ {A = ℕ} 0 1 = cc in absurd (omega arith)
+mark_spelt [] k n e = let z : refused Missing ≡ got k n = sym mark_none ∙ e in let w : ◌≡◌ {A = ℕ} 0 1 = cc in absurd (omega arith)
+mark_spelt (a ∷ []) k n e = let z : refused Missing ≡ got k n = sym (mark_one a) ∙ e in let w : ◌≡◌ {A = ℕ} 0 1 = cc in absurd (omega arith)
 mark_spelt (a ∷ b ∷ s) k n e = sym (kind_letters kinds a b 2 k n (sym (letters_read a b s) ∙ e)).0

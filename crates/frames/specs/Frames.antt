@@ -3,6 +3,8 @@
 use Rattle.std.specs.Prelude.{ℕ, ◌+◌, ◌*◌, Bool, ◌&&◌, cond, List, [], ◌∷◌, length, get_or, take, drop, leb, eqb}
 use Rattle.frames.specs.declared.Kind.{Kind}
 use Rattle.frames.specs.declared.Kind.TheVariants.{Tg, St, Li, Wd, Qu, Pl, Cf, Pv}
+use Rattle.sorts.specs.declared.Refusal.{Refusal}
+use Rattle.sorts.specs.declared.Refusal.TheVariants.{Missing, Mark}
 use Rattle.ranges.specs.Bytes.{Outcome, got, refused, and_then, byte_at}
 
 -- "Each opens with two letters in ASCII." Document 02, 7: "New records have lower-case mark letters".
@@ -27,7 +29,7 @@ opens k a b = eqb a (get_or (letters_of k) 0 0) && eqb b (get_or (letters_of k) 
 -- The first of some kinds that has the letters a and b, and the place n after them; 2: "the two mark bytes are none of" the letters,
 -- to which document 02, 5 adds "the letters of each record added here or later". Document 02, 7: "Upper-case marks meet refusal 2".
 unfoldable pub kind_with : List Kind → ℕ → ℕ → ℕ → Outcome Kind
-kind_with [] a b n = refused 2
+kind_with [] a b n = refused Mark
 kind_with (k ∷ ks) a b n = cond (opens k a b) (got k n) (kind_with ks a b n)
 
 -- The kind of a record. "fewer than two mark bytes is 1"
@@ -41,13 +43,13 @@ stated high low = 256 * high + low
 -- What stands at the front of some bytes: a record of a kind, with the bytes of its content; or the refusal that ends the reading.
 pub data Frame : Type 0 where
   holds : Kind → List ℕ → Frame
-  ends : ℕ → Frame
+  ends : Refusal → Frame
 
 -- The bytes s after the mark. 1: "a byte is missing", here one of the length; "a stated length beyond the input is 1".
 abbrev pub sized : Kind → List ℕ → Frame
-sized k [] = ends 1
-sized k (high ∷ []) = ends 1
-sized k (high ∷ low ∷ s) = cond (leb (stated high low) (length s)) (holds k (take (stated high low) s)) (ends 1)
+sized k [] = ends Missing
+sized k (high ∷ []) = ends Missing
+sized k (high ∷ low ∷ s) = cond (leb (stated high low) (length s)) (holds k (take (stated high low) s)) (ends Missing)
 
 abbrev pub marked : Outcome Kind → List ℕ → Frame
 marked (got k n) s = sized k (drop n s)

@@ -2,8 +2,9 @@
 #![tactic(auto)]
 
 ghost use Rattle.std.specs.Prelude.{◌≡◌, ◌≤◌, drop};
-ghost use Rattle.frames.specs.Frames.{letters_of, kinds, opens, kind_with, read_mark, stated, sized, frame};
-ghost use Rattle.frames.specs.Inner.Told.{as_mark, longest, Opens};
+ghost use Rattle.frames.specs.Frames.{letters_of, read_mark, stated, sized, frame};
+ghost use Rattle.ranges.specs.Bytes.{as_result};
+ghost use Rattle.frames.specs.Inner.Told.{longest, Names, Framed};
 
 use sorts::Refusal;
 
@@ -11,7 +12,7 @@ use sorts::Refusal;
 pub const HEADER: usize = 4;
 
 // The kinds of record.
-#[derive(Clone, Copy)]
+#[derive(Clone, Copy, PartialEq, Eq)]
 pub enum Kind {
     Tg,
     St,
@@ -21,20 +22,6 @@ pub enum Kind {
     Pl,
     Cf,
     Pv,
-}
-
-// A record's kind with the place after its mark, or the number of the refusal.
-#[derive(Clone, Copy)]
-pub enum MarkOut {
-    Got(Kind, usize),
-    No(u8),
-}
-
-// A record's kind with the length of its content, which is all there, or the number of the refusal.
-#[derive(Clone, Copy)]
-pub enum FrameOut {
-    Got(Kind, usize),
-    No(u8),
 }
 
 impl Kind {
@@ -55,8 +42,17 @@ impl Kind {
 
     pub const PV: [u8; 2] = *b"pv";
 
-    // How many kinds there are.
-    pub const COUNT: usize = 8;
+    // All kinds.
+    const ALL: [Kind; 8] = [
+        Kind::Tg,
+        Kind::St,
+        Kind::Li,
+        Kind::Wd,
+        Kind::Qu,
+        Kind::Pl,
+        Kind::Cf,
+        Kind::Pv,
+    ];
 
     // The letters of a kind.
     pub fn letters(self) -> [u8; 2]
@@ -73,82 +69,60 @@ impl Kind {
             Kind::Pv => Kind::PV,
         }
     }
-
-    // Whether a and b are its letters.
-    fn opens(self, a: u8, b: u8) -> bool
-        ensures { result ≡ opens self a b }
-    {
-        let m = self.letters();
-        if a == m[0] { b == m[1] } else { false }
-    }
 }
 
-// The kind that two letters say, where n is the place after them.
-fn kind_of(a: u8, b: u8, n: usize) -> MarkOut
-    ensures { result ≡ as_mark (kind_with kinds a b n) }
-{
-    let all = [
-        Kind::Tg,
-        Kind::St,
-        Kind::Li,
-        Kind::Wd,
-        Kind::Qu,
-        Kind::Pl,
-        Kind::Cf,
-        Kind::Pv,
-    ];
-    let mut i = 0;
-    while i < Kind::COUNT {
-        let k = all[i];
-        if k.opens(a, b) {
-            return MarkOut::Got(k, n);
+// The kind that two letters say.
+impl TryFrom<[u8; 2]> for Kind {
+    type Error = Refusal;
+
+    ghost try_from_gives = { Names };
+
+    fn try_from(letters: [u8; 2]) -> Result<Kind, Refusal> {
+        for k in Kind::ALL {
+            if k.letters() == letters {
+                return Ok(k);
+            }
         }
-        i += 1;
+        Err(Refusal::Mark)
     }
-    MarkOut::No(Refusal::MARK)
 }
 
-// The kind of the record that s starts with.
-pub fn read_mark(s: &[u8]) -> MarkOut
-    ensures { result ≡ as_mark (read_mark s.now) }
+// The kind of the record that s starts with, and the place after its mark.
+pub fn read_mark(s: &[u8]) -> Result<(Kind, usize), Refusal>
+    ensures { result ≡ as_result (read_mark s.now) }
 {
     if s.len() < 2 {
-        return MarkOut::No(Refusal::MISSING);
+        return Err(Refusal::Missing);
     }
-    let a = s[0];
-    let b = s[1];
-    kind_of(a, b, 2)
+    let k = Kind::try_from([s[0], s[1]])?;
+    Ok((k, 2))
 }
 
 // The number that two bytes state, the high one first.
 fn stated(high: u8, low: u8) -> usize
     ensures { (result ≡ stated high low) × (result ≤ longest) }
 {
-    256 * (high as usize) + (low as usize)
+    u16::from_be_bytes([high, low]) as usize
 }
 
-// The frame of a record of kind k: the length of its content, which must be there.
-fn read_length(k: Kind, s: &[u8]) -> FrameOut
-    ensures { Opens (sized k (drop 2 s.now)) s.now result }
+// The content of the record of kind k that s starts with, which must be there.
+fn read_content(k: Kind, s: &[u8]) -> Result<(Kind, &[u8]), Refusal>
+    ensures { Framed (sized k (drop 2 s.now)) result }
 {
     if s.len() < HEADER {
-        return FrameOut::No(Refusal::MISSING);
+        return Err(Refusal::Missing);
     }
-    let high = s[2];
-    let low = s[3];
-    let len = stated(high, low);
+    let len = stated(s[2], s[3]);
     if s.len() - HEADER < len {
-        return FrameOut::No(Refusal::MISSING);
+        return Err(Refusal::Missing);
     }
-    FrameOut::Got(k, len)
+    Ok((k, &s[HEADER..HEADER + len]))
 }
 
-// The kind of the record that s starts with, and the length of its content.
-pub fn read_frame(s: &[u8]) -> FrameOut
-    ensures { Opens (frame s.now) s.now result }
+// The kind of the record that s starts with, and its content.
+pub fn read_frame(s: &[u8]) -> Result<(Kind, &[u8]), Refusal>
+    ensures { Framed (frame s.now) result }
 {
-    match read_mark(s) {
-        MarkOut::No(k) => FrameOut::No(k),
-        MarkOut::Got(k, _) => read_length(k, s),
-    }
+    let (k, _) = read_mark(s)?;
+    read_content(k, s)
 }

@@ -14,7 +14,8 @@ use Rattle.rows.specs.Form.{larger, depth, depth_conds, depth_concl, depth_right
 use Rattle.sorts.specs.RowForm.{PrinForm, PackForm}
 use Rattle.rows.specs.Allowed.{Allowed, AllowedConds, AllowedConcl, AllowedRight}
 use Rattle.ranges.specs.declared.Scope.{Scope}
-use Rattle.ranges.specs.Bytes.{Outcome, and_then, byte_at, upto, principal, pack, tag, header, Header, declared}
+use Rattle.ranges.specs.declared.Header.{Header}
+use Rattle.ranges.specs.Bytes.{Outcome, and_then, byte_at, upto, principal, pack, tag, header, declared}
 use Rattle.grants.specs.Grants.{read_property, read_packed, read_issue, read_concl, read_conds, read_with, read_grant}
 use Rattle.grants.proofs.Spelled.{Spelled, join, nothing, byte_spelled}
 use Rattle.grants.proofs.Gives.{Gives, done, not_got, after, choose}
@@ -30,7 +31,7 @@ unfolding byte_at
 byte_found s at =
     choose _ (ltb at (length s)) _ _
     (λ h. done _ _ _ (byte_spelled s at (ltb-true at (length s) h)))
-    (λ h. not_got _ 1)
+    (λ h. not_got _ _)
 
 -- a byte, and then a test that lets only bytes with F through
 byte_then : (F : ℕ → Type 0) (s : List ℕ) (at : ℕ) (f : ℕ → ℕ → Outcome ℕ) →
@@ -44,14 +45,14 @@ upto_found most s at =
     byte_then _ s at _ (λ b n x.
     choose _ (leb b most) _ _
     (λ h. done _ b n (record { is = leb-true b most h; stands = x }))
-    (λ h. not_got _ 3))
+    (λ h. not_got _ _))
 
 -- a listed variable byte
 variable_found : (F : ℕ → Type 0) (s : List ℕ) (at : ℕ) (is : Bool) (b n : ℕ) → Spelled s at (b ∷ []) n → (is ≡ true → F b) → Gives (ByteRead F s at) (declared is b n)
 variable_found F s at is b n x f =
     choose _ is _ _
     (λ h. done _ b n (record { is = f h; stands = x }))
-    (λ h. not_got _ 4)
+    (λ h. not_got _ _)
 
 -- a principal that was read is one, or a variable that is declared
 pub principal_found : (v : Scope) (s : List ℕ) (at : ℕ) → Gives (ByteRead (λ p. PrinForm v.prins (record { 0 = p })) s at) (principal v s at)
@@ -64,7 +65,7 @@ principal_found v s at =
     (λ h. variable_found _ s at (ltb 0 v.prins) b n x (λ k. inr (inl (eqb-true b 128 h, ltb-true 0 v.prins k))))
     (λ h. choose _ (eqb b 129) _ _
     (λ h. variable_found _ s at (ltb 1 v.prins) b n x (λ k. inr (inr (eqb-true b 129 h, ltb-true 1 v.prins k))))
-    (λ h. not_got _ 3))))
+    (λ h. not_got _ _))))
 
 -- a pack that was read is one, or the pack variable where it is declared
 pub pack_found : (v : Scope) (s : List ℕ) (at : ℕ) → Gives (ByteRead (λ p. PackForm v.res (record { 0 = p })) s at) (pack v s at)
@@ -75,7 +76,7 @@ pack_found v s at =
     (λ h. done _ b n (record { is = inl (ltb-true b packs h); stands = x }))
     (λ h. choose _ (eqb b 128) _ _
     (λ h. variable_found _ s at (eqb v.res 2) b n x (λ k. inr (eqb-true b 128 h, eqb-true v.res 2 k)))
-    (λ h. not_got _ 3)))
+    (λ h. not_got _ _)))
 
 -- The byte after an issue's principal: a whole grant follows, or the grant variable stands there and is declared.
 abbrev pub TagIs : Scope → ℕ → Type 0
@@ -90,7 +91,7 @@ tag_found v s at =
     (λ h. done _ b n (record { is = inl (eqb-true b 0 h); stands = x }))
     (λ h. choose _ (eqb b 1) _ _
     (λ h. variable_found _ s at (eqb v.res 1) b n x (λ k. inr (eqb-true b 1 h, eqb-true v.res 1 k)))
-    (λ h. not_got _ 3)))
+    (λ h. not_got _ _)))
 
 -- A grant found with at most left grants one inside the other, from place at up to place n.
 pub record GrantFound (left : ℕ) (s : List ℕ) (at : ℕ) (g : Grant) (n : ℕ) : Type 0 where
@@ -236,5 +237,5 @@ with_found left s inner ok at =
 -- what a grant's reader finds
 pub grant_found : (left : ℕ) (s : List ℕ) → Finds left s (read_grant left s)
 unfolding read_grant
-grant_found zero s at = not_got _ 5
+grant_found zero s at = not_got _ _
 grant_found (suc below) s at = with_found below s (read_grant below s) (grant_found below s) at

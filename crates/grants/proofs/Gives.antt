@@ -2,7 +2,7 @@
 use Prim.Native.Nat.{ℕ}
 use mathlib.Core.Path.{◌≡◌, refl}
 use mathlib.Core.Bool.{Bool, true, false, cond}
-use native.Mathlib.Omega.{arith}
+use Rattle.sorts.specs.declared.Refusal.{Refusal}
 use Rattle.ranges.specs.Bytes.{Outcome, got, refused, and_then}
 
 -- P holds of what o found and of the place after it
@@ -17,8 +17,8 @@ done P a n x b m e =
     rw (p, q) at x
 
 -- a refusal finds nothing
-pub not_got : {A : Type 0} (P : A → ℕ → Type 0) (k : ℕ) → Gives P (refused k)
-not_got P k b m e = let z : ◌≡◌ {A = ℕ} 0 1 = cc in absurd (omega arith)
+pub not_got : {A : Type 0} (P : A → ℕ → Type 0) (k : Refusal) → Gives P (refused k)
+not_got P k b m e = cc
 
 -- one reader after another
 pub after : {A B : Type 0} (P : A → ℕ → Type 0) (Q : B → ℕ → Type 0) (o : Outcome A) (f : A → ℕ → Outcome B) →

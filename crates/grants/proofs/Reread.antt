@@ -13,6 +13,7 @@ use Rattle.rows.specs.Written.{Grant, Conds, Concl, Right, grant, none, also, pr
 use Rattle.rows.specs.Form.{larger, depth, depth_conds, depth_concl, depth_right}
 use Rattle.sorts.specs.RowForm.{PrinForm, PackForm}
 use Rattle.rows.specs.Allowed.{Allowed, AllowedConds, AllowedConcl, AllowedRight}
+use Rattle.sorts.specs.declared.Refusal.TheVariants.{Range}
 use Rattle.ranges.specs.declared.Scope.{Scope}
 use Rattle.ranges.specs.Bytes.{Outcome, got, refused, byte_at, upto, principal, pack, tag, header, declared}
 use Rattle.grants.specs.Grants.{read_property, read_packed, read_issue, read_concl, read_conds, read_with, read_grant}
@@ -37,7 +38,7 @@ module _ {s : List ℕ} {at b n : ℕ} (x : Spelled s at (b ∷ []) n) where
   principal_reads v f = rw byte_reads (go f)
     where
       go : PrinForm v.prins (record { 0 = b }) →
-          ◌≡◌ {A = Outcome ℕ} (cond (ltb b principals) (got b n) (cond (eqb b 128) (declared (ltb 0 v.prins) b n) (cond (eqb b 129) (declared (ltb 1 v.prins) b n) (refused 3)))) (got b n)
+          ◌≡◌ {A = Outcome ℕ} (cond (ltb b principals) (got b n) (cond (eqb b 128) (declared (ltb 0 v.prins) b n) (cond (eqb b 129) (declared (ltb 1 v.prins) b n) (refused Range)))) (got b n)
       go (inl h) = rw (lt-ltb b principals h)
       go (inr (inl h)) = rw (h.0, lt-ltb 0 v.prins h.1)
       go (inr (inr h)) = rw (h.0, lt-ltb 1 v.prins h.1)
@@ -48,7 +49,7 @@ module _ {s : List ℕ} {at b n : ℕ} (x : Spelled s at (b ∷ []) n) where
   pack_reads v f = rw byte_reads (go f)
     where
       go : PackForm v.res (record { 0 = b }) →
-          ◌≡◌ {A = Outcome ℕ} (cond (ltb b packs) (got b n) (cond (eqb b 128) (declared (eqb v.res 2) b n) (refused 3))) (got b n)
+          ◌≡◌ {A = Outcome ℕ} (cond (ltb b packs) (got b n) (cond (eqb b 128) (declared (eqb v.res 2) b n) (refused Range))) (got b n)
       go (inl h) = rw (lt-ltb b packs h)
       go (inr h) = rw (h.0, h.1)
 

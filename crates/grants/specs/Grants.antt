@@ -3,6 +3,7 @@
 use Rattle.std.specs.Prelude.{ℕ, zero, suc, ◌-◌, cond, List, eqb}
 use Rattle.sorts.specs.Numbers.{properties}
 use Rattle.rows.specs.Written.{Grant, Conds, Concl, grant, none, also, property, perm, issue, issue_any, run, export}
+use Rattle.sorts.specs.declared.Refusal.TheVariants.{Depth}
 use Rattle.ranges.specs.declared.Scope.{Scope}
 use Rattle.ranges.specs.Bytes.{Outcome, got, refused, and_then, upto, principal, pack, tag, header}
 
@@ -52,5 +53,5 @@ read_with inner s at =
 -- "The outermost grant is at depth 1, one inside it at 2, and depth 4 is the last allowed." `left` grants may stand one
 -- inside the other from here on, this one counted: 4 at depth 1. 5: "an inner grant would stand at depth 5".
 unfoldable pub read_grant : ℕ → List ℕ → ℕ → Outcome Grant
-read_grant zero s at = refused 5
+read_grant zero s at = refused Depth
 read_grant (suc below) s at = read_with (read_grant below s) s at

@@ -1,284 +1,145 @@
 // The readers of a grant and of a conclusion, which call each other: one pass from left to right that reads and numbers.
 #![tactic(auto)]
 
-ghost use Rattle.std.specs.Prelude.{◌≡◌, ◌≤◌, ◌<◌, ◌+◌};
-ghost use Rattle.sorts.specs.Numbers.{grants, conditions};
-ghost use Rattle.grants.specs.Inner.OnePass.{num_grant, num_concl, num_conds, num_issue, num_granted, num_property, num_packed};
+ghost use Rattle.std.specs.Prelude.{◌≡◌, ◌≤◌};
+ghost use Rattle.sorts.specs.Numbers.{conditions};
+ghost use Rattle.ranges.specs.Bytes.{as_result};
+ghost use Rattle.grants.specs.Inner.OnePass.{Matches, blank_conds, num_grant, num_concl, num_conds, num_issue, num_property, num_packed};
 
-use ranges::{Got, HeaderOut, Scope};
+use ranges::Scope;
 use rows::Numbering;
 use sorts::{Concl, Cond, GrantNo, Number, Pack, Prin, Refusal, Res, Row};
 
 // The last property.
 const LAST_PROPERTY: u8 = Number::PROPERTIES as u8 - 1;
 
-// A grant's number with the place after the grant, or the number of the refusal.
-#[derive(Clone, Copy)]
-pub enum GrantOut {
-    Got(GrantNo, usize),
-    Refused(u8),
-}
-
-#[derive(Clone, Copy)]
-pub struct GrantReading {
-    pub numbering: Numbering,
-    pub out: GrantOut,
-}
-
-// A conclusion with its inner grant as its number, and the place after it; or the number of the refusal.
-#[derive(Clone, Copy)]
-pub enum ConclOut {
-    Got(Concl, usize),
-    Refused(u8),
-}
-
-#[derive(Clone, Copy)]
-pub struct ConclReading {
-    pub numbering: Numbering,
-    pub out: ConclOut,
-}
-
-// The place after the conditions, or the number of the refusal.
-#[derive(Clone, Copy)]
-pub enum CondsOut {
-    At(usize),
-    Refused(u8),
-}
-
-#[derive(Clone, Copy)]
-pub struct CondsReading {
-    pub numbering: Numbering,
-    pub conds: [Cond; Row::CONDITIONS],
-    pub out: CondsOut,
-}
+// Each reader finds a value with the place after it, or the first fault; in the table that it is lent it numbers what it reads.
 
 // A grant; `left` grants may stand one inside the other from here on, this one counted.
-#[cycle(read_concl_read_conds_read_grant_read_granted_read_issue)]
-pub fn read_grant(s: &[u8], at: usize, left: u8, t: Numbering) -> GrantReading
-    requires { t.table.count ≤ grants }
-    ensures value { result ≡ num_grant left s.now at t }
-    ensures small { result.numbering.table.count ≤ grants }
+#[cycle(grants)]
+#[tactic(auto, unfolding(crate::specs::Inner::OnePass::num_grant, crate::specs::Inner::OnePass::num_with, crate::specs::Inner::OnePass::onward))]
+pub fn read_grant(
+    s: &[u8],
+    at: usize,
+    left: u8,
+    t: &mut Numbering,
+) -> Result<(GrantNo, usize), Refusal>
+    ensures { Matches (num_grant left s.now at t.old) result t.new }
 {
     if left == 0 {
-        return GrantReading {
-            numbering: t,
-            out: GrantOut::Refused(Refusal::DEPTH),
-        };
+        return Err(Refusal::Depth);
     }
     let below = left - 1;
-    match ranges::read_header(s, at) {
-        HeaderOut::No(k) => GrantReading {
-            numbering: t,
-            out: GrantOut::Refused(k),
-        },
-        HeaderOut::Got(v, count, n) => {
-            let blank = Cond::blank();
-            let none = [blank; Row::CONDITIONS];
-            let a = read_conds(s, n, below, v, count, 0, none, t);
-            read_granted(s, below, v, count, a)
-        }
-    }
+    let (h, n) = ranges::read_header(s, at)?;
+    let v = h.scope;
+    let (conds, n1) = read_conds(s, n, below, v, h.count, t)?;
+    let (head, n2) = read_concl(s, n1, below, v, t)?;
+    let row = Row {
+        prins: v.prins,
+        res: v.res,
+        count: h.count,
+        conds,
+        head,
+    };
+    let no = t.enter(row);
+    Ok((no, n2))
 }
 
-// What follows the conditions of a grant: the conclusion granted. The row is then complete and gets its number.
-#[cycle(read_concl_read_conds_read_grant_read_granted_read_issue)]
-fn read_granted(s: &[u8], below: u8, v: Scope, count: u8, a: CondsReading) -> GrantReading
-    requires { a.numbering.table.count ≤ grants }
-    ensures value { result ≡ num_granted (num_grant below s.now) v count s.now a }
-    ensures small { result.numbering.table.count ≤ grants }
-{
-    let t = a.numbering;
-    let conds = a.conds;
-    let o = a.out;
-    match o {
-        CondsOut::Refused(k) => GrantReading {
-            numbering: t,
-            out: GrantOut::Refused(k),
-        },
-        CondsOut::At(at) => {
-            let b = read_concl(s, at, below, v, t);
-            let u = b.numbering;
-            let p = b.out;
-            match p {
-                ConclOut::Refused(k) => GrantReading {
-                    numbering: u,
-                    out: GrantOut::Refused(k),
-                },
-                ConclOut::Got(head, n) => {
-                    let row = Row {
-                        prins: v.prins,
-                        res: v.res,
-                        count,
-                        conds,
-                        head,
-                    };
-                    let e = rows::enter(u, row);
-                    let w = e.numbering;
-                    let no = e.no;
-                    GrantReading {
-                        numbering: w,
-                        out: GrantOut::Got(no, n),
-                    }
-                }
-            }
-        }
-    }
-}
-
-// `k` more conditions, the first at place i of the row.
-#[cycle(read_concl_read_conds_read_grant_read_granted_read_issue)]
+// So many conditions of a grant that declares v; the places after them are blank.
+#[cycle(grants)]
+#[tactic(auto, unfolding(crate::specs::Inner::OnePass::num_conds, crate::specs::Inner::OnePass::onward))]
 fn read_conds(
     s: &[u8],
     at: usize,
     below: u8,
     v: Scope,
-    k: u8,
-    i: usize,
-    conds: [Cond; Row::CONDITIONS],
-    t: Numbering,
-) -> CondsReading
-    requires count_le_grants { t.table.count ≤ grants }
-    requires k_bound { i + k ≤ conditions }
-    ensures value { result ≡ num_conds (num_grant below s.now) v s.now k at i conds t }
-    ensures small { result.numbering.table.count ≤ grants }
+    count: u8,
+    t: &mut Numbering,
+) -> Result<([Cond; Row::CONDITIONS], usize), Refusal>
+    requires { count ≤ conditions }
+    ensures { Matches (num_conds (num_grant below s.now) v s.now count at 0 blank_conds t.old) result t.new }
 {
-    if k == 0 {
-        return CondsReading {
-            numbering: t,
-            conds,
-            out: CondsOut::At(at),
+    let blank = Cond::blank();
+    let mut conds = [blank; Row::CONDITIONS];
+    let mut n = at;
+    for i in 0..count as usize {
+        let (who, n1) = ranges::read_prin(v, s, n)?;
+        let (what, n2) = read_concl(s, n1, below, v, t)?;
+        conds[i] = Cond {
+            who: Prin(who),
+            what,
         };
+        n = n2;
     }
-    match ranges::read_prin(v, s, at) {
-        Got::No(n) => CondsReading {
-            numbering: t,
-            conds,
-            out: CondsOut::Refused(n),
-        },
-        Got::Byte(who, n1) => {
-            let b = read_concl(s, n1, below, v, t);
-            let u = b.numbering;
-            let o = b.out;
-            match o {
-                ConclOut::Refused(n) => CondsReading {
-                    numbering: u,
-                    conds,
-                    out: CondsOut::Refused(n),
-                },
-                ConclOut::Got(what, n2) => {
-                    let mut more = conds;
-                    more[i] = Cond {
-                        who: Prin(who),
-                        what,
-                    };
-                    read_conds(s, n2, below, v, k - 1, i + 1, more, u)
-                }
-            }
-        }
-    }
+    Ok((conds, n))
 }
 
 // A conclusion of a grant that declares v.
-#[cycle(read_concl_read_conds_read_grant_read_granted_read_issue)]
-pub fn read_concl(s: &[u8], at: usize, below: u8, v: Scope, t: Numbering) -> ConclReading
-    requires { t.table.count ≤ grants }
-    ensures value { result ≡ num_concl (num_grant below s.now) v s.now at t }
-    ensures small { result.numbering.table.count ≤ grants }
+#[cycle(grants)]
+#[tactic(auto, unfolding(crate::specs::Inner::OnePass::num_concl, crate::specs::Inner::OnePass::onward))]
+pub fn read_concl(
+    s: &[u8],
+    at: usize,
+    below: u8,
+    v: Scope,
+    t: &mut Numbering,
+) -> Result<(Concl, usize), Refusal>
+    ensures { Matches (num_concl (num_grant below s.now) v s.now at t.old) result t.new }
 {
-    match ranges::read_upto(3, s, at) {
-        Got::No(k) => ConclReading {
-            numbering: t,
-            out: ConclOut::Refused(k),
-        },
-        Got::Byte(kind, n1) => {
-            if kind == 0 {
-                return ConclReading {
-                    numbering: t,
-                    out: read_property(s, n1, v),
-                };
-            }
-            match ranges::read_prin(v, s, n1) {
-                Got::No(k) => ConclReading {
-                    numbering: t,
-                    out: ConclOut::Refused(k),
-                },
-                Got::Byte(p, n2) => {
-                    if kind == 1 {
-                        read_issue(s, n2, below, v, Prin(p), t)
-                    } else {
-                        ConclReading {
-                            numbering: t,
-                            out: read_packed(s, n2, v, kind, Prin(p)),
-                        }
-                    }
-                }
-            }
-        }
+    let (kind, n1) = ranges::read_upto(3, s, at)?;
+    if kind == 0 {
+        return read_property(s, n1, v);
+    }
+    let (p, n2) = ranges::read_prin(v, s, n1)?;
+    if kind == 1 {
+        read_issue(s, n2, below, v, Prin(p), t)
+    } else {
+        read_packed(s, n2, v, kind, Prin(p))
     }
 }
 
 // The property and the principal of a conclusion of kind 0.
-fn read_property(s: &[u8], at: usize, v: Scope) -> ConclOut
-    ensures { result ≡ num_property v s.now at }
+#[tactic(auto, unfolding(crate::specs::Inner::OnePass::num_property))]
+fn read_property(s: &[u8], at: usize, v: Scope) -> Result<(Concl, usize), Refusal>
+    ensures { result ≡ as_result (num_property v s.now at) }
 {
-    match ranges::read_upto(LAST_PROPERTY, s, at) {
-        Got::No(k) => ConclOut::Refused(k),
-        Got::Byte(prop, n1) => match ranges::read_prin(v, s, n1) {
-            Got::No(k) => ConclOut::Refused(k),
-            Got::Byte(p, n2) => ConclOut::Got(Concl::Property(prop, Prin(p)), n2),
-        },
-    }
+    let (k, n1) = ranges::read_upto(LAST_PROPERTY, s, at)?;
+    let (p, n2) = ranges::read_prin(v, s, n1)?;
+    Ok((Concl::Property(k, Prin(p)), n2))
 }
 
 // The pack of p's run right (kind 2) or export right (kind 3).
-fn read_packed(s: &[u8], at: usize, v: Scope, kind: u8, p: Prin) -> ConclOut
-    ensures { result ≡ num_packed v kind p s.now at }
+#[tactic(auto, unfolding(crate::specs::Inner::OnePass::num_packed))]
+fn read_packed(s: &[u8], at: usize, v: Scope, kind: u8, p: Prin) -> Result<(Concl, usize), Refusal>
+    ensures { result ≡ as_result (num_packed v kind p s.now at) }
 {
-    match ranges::read_pack(v, s, at) {
-        Got::No(k) => ConclOut::Refused(k),
-        Got::Byte(n, n1) => {
-            if kind == 2 {
-                ConclOut::Got(Concl::Perm(p, Res::Run(Pack(n))), n1)
-            } else {
-                ConclOut::Got(Concl::Perm(p, Res::Export(Pack(n))), n1)
-            }
-        }
-    }
+    let (n, n1) = ranges::read_pack(v, s, at)?;
+    let over = if kind == 2 {
+        Res::Run(Pack(n))
+    } else {
+        Res::Export(Pack(n))
+    };
+    Ok((Concl::Perm(p, over), n1))
 }
 
 // What p's issue right is over: a whole grant or the grant variable.
-#[cycle(read_concl_read_conds_read_grant_read_granted_read_issue)]
-fn read_issue(s: &[u8], at: usize, below: u8, v: Scope, p: Prin, t: Numbering) -> ConclReading
-    requires { t.table.count ≤ grants }
-    ensures value { result ≡ num_issue (num_grant below s.now) v p s.now at t }
-    ensures small { result.numbering.table.count ≤ grants }
+#[cycle(grants)]
+#[tactic(auto, unfolding(crate::specs::Inner::OnePass::num_issue, crate::specs::Inner::OnePass::onward))]
+fn read_issue(
+    s: &[u8],
+    at: usize,
+    below: u8,
+    v: Scope,
+    p: Prin,
+    t: &mut Numbering,
+) -> Result<(Concl, usize), Refusal>
+    ensures { Matches (num_issue (num_grant below s.now) v p s.now at t.old) result t.new }
 {
-    match ranges::read_tag(v, s, at) {
-        Got::No(k) => ConclReading {
-            numbering: t,
-            out: ConclOut::Refused(k),
-        },
-        Got::Byte(tag, n1) => {
-            if tag == 1 {
-                let any = GrantNo(GrantNo::VAR);
-                return ConclReading {
-                    numbering: t,
-                    out: ConclOut::Got(Concl::Perm(p, Res::Issue(any)), n1),
-                };
-            }
-            let g = read_grant(s, n1, below, t);
-            let u = g.numbering;
-            let o = g.out;
-            match o {
-                GrantOut::Refused(k) => ConclReading {
-                    numbering: u,
-                    out: ConclOut::Refused(k),
-                },
-                GrantOut::Got(no, n2) => ConclReading {
-                    numbering: u,
-                    out: ConclOut::Got(Concl::Perm(p, Res::Issue(no)), n2),
-                },
-            }
-        }
+    let (tag, n1) = ranges::read_tag(v, s, at)?;
+    if tag == 1 {
+        let any = GrantNo(GrantNo::VAR);
+        return Ok((Concl::Perm(p, Res::Issue(any)), n1));
     }
+    let (no, n2) = read_grant(s, n1, below, t)?;
+    Ok((Concl::Perm(p, Res::Issue(no)), n2))
 }

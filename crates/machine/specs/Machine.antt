@@ -5,6 +5,8 @@ use Rattle.sorts.specs.declared.Status.{Status}
 use Rattle.sorts.specs.declared.Status.TheVariants.{Trusted, Issued, Provisional}
 use Rattle.sorts.specs.Numbers.{number_of, all_marks}
 use Rattle.sorts.specs.Flags.{same_status}
+use Rattle.sorts.specs.declared.Refusal.TheVariants as refusal
+use Rattle.sorts.specs.declared.Refusal.{Refusal}
 use Rattle.rows.specs.Written.{Grant, same_written}
 use Rattle.rows.specs.Numbering.{number, number_concl}
 use Rattle.rows.specs.Form.{concl_of}
@@ -57,7 +59,7 @@ pub data Verdict : Type 0 where
   changes : Verdict
   previews : Prin → Grant → Verdict
   asks : ℕ → Verdict
-  refuses : ℕ → Verdict
+  refuses : Refusal → Verdict
 
 -- The state after a record, what the machine says, and the bytes used.
 pub record Step : Type 0 where
@@ -66,7 +68,7 @@ pub record Step : Type 0 where
   pub used : ℕ
 
 -- "A refused record changes nothing."
-abbrev pub refuse : State → ℕ → ℕ → Step
+abbrev pub refuse : State → Refusal → ℕ → Step
 refuse M k n = record { next = M; says = refuses k; used = n }
 
 -- A grant with a status, as an entry.
@@ -103,14 +105,14 @@ previewed M p g n = record { next = M; says = previews p g; used = n }
 -- 6: "the grants that the record would number and those in N exceed 64". 7: "the grant or licence to remove doesn't stand"; "CF of a
 -- licence that isn't provisional meets refusal 7". A record of n bytes, which are used:
 unfoldable pub act : State → Record → ℕ → Step
-act M (enter by g) n = cond (fits (number g M.N)) (change (entered by g M.entries) (number g M.N) n) (refuse M 6 n)
-act M (remove by g) n = cond (there by g M.entries) (change (removed by g M.entries) M.N n) (refuse M 7 n)
-act M (confirm p g) n = cond (stands M (Provisional p) g) (change (entered (Issued p) g M.entries) M.N n) (refuse M 7 n)
-act M (preview p g) n = cond (there (Issued p) g M.entries) (previewed M p g n) (refuse M 7 n)
+act M (enter by g) n = cond (fits (number g M.N)) (change (entered by g M.entries) (number g M.N) n) (refuse M refusal.Full n)
+act M (remove by g) n = cond (there by g M.entries) (change (removed by g M.entries) M.N n) (refuse M refusal.Absent n)
+act M (confirm p g) n = cond (stands M (Provisional p) g) (change (entered (Issued p) g M.entries) M.N n) (refuse M refusal.Absent n)
+act M (preview p g) n = cond (there (Issued p) g M.entries) (previewed M p g n) (refuse M refusal.Absent n)
 act M (query c) n =
     cond (fits (number_concl c M.N))
     (record { next = record { entries = M.entries; N = number_concl c M.N }; says = asks (number_of (concl_of (number_concl c M.N) c)); used = n })
-    (refuse M 6 n)
+    (refuse M refusal.Full n)
 
 -- "then the record from left to right, the first fault deciding". Document 02, 7: a fault uses the u bytes that the record's frame has.
 abbrev pub acted : State → ℕ → Outcome Record → Step
@@ -125,4 +127,4 @@ step M s = acted M (extent s) (read_canonical s)
 -- Document 02, 6: "A preview buffer not as long as the marks meets refusal 9, and the plain machine, fed that length too, then refuses
 -- with 9 as well." The record s, where a preview buffer of u bytes is lent.
 unfoldable pub feed : State → ℕ → List ℕ → Step
-feed M u s = cond (eqb u all_marks) (step M s) (refuse M 9 0)
+feed M u s = cond (eqb u all_marks) (step M s) (refuse M refusal.Form 0)

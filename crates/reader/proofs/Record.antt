@@ -9,6 +9,7 @@ use native.Mathlib.Omega.{arith}
 use lib.ListN.{length}
 use lib.Dec.{eqb}
 use Rattle.sorts.specs.Numbers.{grants}
+use Rattle.sorts.specs.declared.Refusal.TheVariants as refusal
 use Rattle.rows.specs.declared.Table.{Table}
 use Rattle.rows.specs.Written.{Grant}
 use Rattle.rows.specs.Numbering.{has, number, number_concl}
@@ -37,7 +38,7 @@ module _ (t : Table) (f : TableForm t) where
   module _ (len : ℕ) where
     -- what was found ends with the content, or it does not
     ends_right : (o : Outcome Record) (n : ℕ) (r : Reading) (b : Bool) → eqb n len ≡ b → (b ≡ true → RightUsing (4 + len) N t o r) →
-        RightUsing (4 + len) N t (cond b o (refused 10)) (cond b r (no_r t (4 + len) 10))
+        RightUsing (4 + len) N t (cond b o (refused refusal.Content)) (cond b r (no_r t (4 + len) refusal.Content))
     unfolding found_of numbered_by
     ends_right o n r true e h = h refl
     ends_right o n r false e h = record { found = refl; rows = refl; form = f }
@@ -46,14 +47,14 @@ module _ (t : Table) (f : TableForm t) where
     module _ (n : ℕ) (u : Table) (g : TableForm u) where
       asks_or : (other : ℕ → Found) → whole_of t len u (other n) ≡ ending t len n (record { table = u; found = other (4 + len) }) → (c : Bool) (q : Request) (r : Record) →
           found_of N (4 + len) (got r (4 + len)) ≡ cond c (Asks q (4 + len)) (other (4 + len)) → rows_out u.rows u.count ≡ numbered_by N (got r (4 + len)) →
-          RightUsing (4 + len) N t (cond (eqb n len) (got r (4 + len)) (refused 10)) (whole_of t len u (cond c (Asks q n) (other n)))
+          RightUsing (4 + len) N t (cond (eqb n len) (got r (4 + len)) (refused refusal.Content)) (whole_of t len u (cond c (Asks q n) (other n)))
       asks_or other is true q r e p =
           ends_right (got r (4 + len)) n (record { table = u; found = Asks q (4 + len) }) (eqb n len) refl (λ _. record { found = sym e; rows = p; form = g })
       asks_or other is false q r e p =
           rw is (ends_right (got r (4 + len)) n (record { table = u; found = other (4 + len) }) (eqb n len) refl (λ _. record { found = sym e; rows = p; form = g }))
 
       found_ends : (r : Record) → rows_out u.rows u.count ≡ numbered_by N (got r n) →
-          RightUsing (4 + len) N t (cond (eqb n len) (got r (4 + len)) (refused 10)) (whole_of t len u (found_of N 0 (got r n)))
+          RightUsing (4 + len) N t (cond (eqb n len) (got r (4 + len)) (refused refusal.Content)) (whole_of t len u (found_of N 0 (got r n)))
       unfolding found_of numbered_by
       found_ends (enter by x) p = asks_or Full refl (fits (number x N)) _ (enter by x) refl p
       found_ends (remove by x) p = asks_or Unknown refl (has x N) _ (remove by x) refl p
@@ -68,7 +69,7 @@ module _ (t : Table) (f : TableForm t) where
     whole_right (refused j) r h = rw h.found (record { found = refl; rows = refl; form = f })
     whole_right (got x n) r h = rw (h.found, shape (eqb n len)) (found_ends n r.table h.form (canon_record x) h.rows)
       where
-        shape : (b : Bool) → in_form (and_then (cond b (got x n) (refused 10)) (λ y m. got y (4 + len))) ≡ cond b (got (canon_record x) (4 + len)) (refused 10)
+        shape : (b : Bool) → in_form (and_then (cond b (got x n) (refused refusal.Content)) (λ y m. got y (4 + len))) ≡ cond b (got (canon_record x) (4 + len)) (refused refusal.Content)
         shape true = refl
         shape false = refl
 
@@ -90,7 +91,7 @@ asks_numbers (Confirm p g) n m = refl
 asks_numbers (Preview p g) n m = refl
 asks_numbers (Query c) n m = refl
 
-ending_keeps : (t : Table) (len : ℕ) (r : Reading) → Keeps t r → (b : Bool) → Keeps t (cond b r (no_r t (4 + len) 10))
+ending_keeps : (t : Table) (len : ℕ) (r : Reading) → Keeps t r → (b : Bool) → Keeps t (cond b r (no_r t (4 + len) refusal.Content))
 ending_keeps t len r h true = h
 ending_keeps t len r h false = λ e. refl
 
@@ -110,7 +111,7 @@ record_keeps s t = go (frame s)
 
 -- The promise, by whether the count is one of a book.
 
-pub reads_over : (s : List ℕ) (t : Table) (r : Reading) → grants < t.count → r ≡ no_r t 0 9 → Reads s t r
+pub reads_over : (s : List ℕ) (t : Table) (r : Reading) → grants < t.count → r ≡ no_r t 0 refusal.Form → Reads s t r
 reads_over s t r l e = record {
   over = λ h. e;
   found = λ f. let c = f.count in absurd (omega arith);

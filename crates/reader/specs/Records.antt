@@ -4,12 +4,18 @@ use Rattle.ranges.specs.Bytes.{Outcome, got, refused, and_then}
 use Rattle.frames.specs.declared.Kind.{Kind}
 use Rattle.frames.specs.Frames.{Frame, holds, ends, frame, frame_length}
 use Rattle.contents.specs.Records.{Record, read_content, canon_record}
+use Rattle.sorts.specs.declared.Refusal.TheVariants as refusal
+use Rattle.sorts.specs.declared.Refusal.{Refusal}
 
 -- 10: "when a record's content needs fewer or more bytes than its stated length; found from left to right like the others". What was
 -- read in a content of len bytes ends where they end; a byte that is missing is one beyond them; a fault before it decides.
+abbrev pub beyond : Refusal → Refusal
+beyond refusal.Missing = refusal.Content
+beyond k = k
+
 abbrev pub fitted : ℕ → Outcome Record → Outcome Record
-fitted len (got r n) = cond (eqb n len) (got r n) (refused 10)
-fitted len (refused k) = refused (cond (eqb k 1) 10 k)
+fitted len (got r n) = cond (eqb n len) (got r n) (refused refusal.Content)
+fitted len (refused k) = refused (beyond k)
 
 unfoldable pub read_whole : Kind → List ℕ → Outcome Record
 read_whole k c = fitted (length c) (read_content k c)

@@ -2,6 +2,7 @@
 use Rattle.std.specs.Prelude.{ℕ, ◌≤◌, ◌<◌, ◌≡◌, false, List, ◌↔◌}
 use Rattle.std.proofs.Math.Option.{some}
 use Rattle.sorts.specs.Numbers.{grants}
+use Rattle.sorts.specs.declared.Refusal.TheVariants as refusal
 use Rattle.rows.specs.declared.Table.{Table}
 use Rattle.rows.specs.Form.{rows_out, TableForm}
 use Rattle.frames.specs.Frames.{extent}
@@ -16,7 +17,7 @@ use Rattle.reader.specs.Inner.OneRecord.{num_record}
 -- record that gives no numbers leaves the table as it was, in form or not. Over any table with a count up to 64, in form or not,
 -- it is what the readers of grants and conclusions find over the rows as they are.
 pub record Reads (s : List ℕ) (t : Table) (r : Reading) : Type 0 where
-  pub over : grants < t.count → r ≡ record { table = t; found = Refused 9 0 }
+  pub over : grants < t.count → r ≡ record { table = t; found = Refused refusal.Form 0 }
   pub found : TableForm t → r.found ≡ found_of (rows_out t.rows t.count) (extent s) (read_canonical s)
   pub rows : TableForm t → rows_out r.table.rows r.table.count ≡ numbered_by (rows_out t.rows t.count) (read_canonical s)
   pub refusals : TableForm t → (k : ℕ) → (number_found r.found ≡ some k) ↔ TurnedBack (rows_out t.rows t.count) (read_canonical s) k

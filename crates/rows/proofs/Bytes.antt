@@ -72,7 +72,7 @@ pub written_injective : (g h : Grant) → written g ≡ written h → g ≡ h
 written_injective g h e = (free g h [] [] (append-nil (written g) ∙ e ∙ sym (append-nil (written h)))).0
 
 pub no_true : false ≡ true → ⊥
-no_true e = let z : ◌≡◌ {A = ℕ} 0 1 = cc in omega arith
+no_true e = cc
 
 and_1 : (a b : Bool) → (a && b) ≡ true → a ≡ true
 and_1 true b e = refl

@@ -1,65 +1,62 @@
 -- Entering a row is adding the grant that it is, written out.
-use Prim.Native.Nat.{ℕ, zero, suc, ◌+◌, ◌-◌, ◌<◌, ◌≤◌}
+use Prim.Native.Nat.{ℕ, ◌+◌, ◌<◌, ◌≤◌}
 use mathlib.Core.List.{List, [], ◌∷◌, ◌++◌}
 use mathlib.Core.Bool.{Bool, true, false, cond}
 use mathlib.Core.Path.{◌≡◌, refl, sym, ap, subst, ◌∙◌}
-use mathlib.Core.Logic.{◌⊎◌, inl, inr}
 use native.Mathlib.Omega.{arith}
-use lib.ListN.{length, get_or, set, length-set, get_or-append}
+use lib.ListN.{length, get_or, set, take, length-set, get_or-append}
 use lib.Seq.{get_or-append_seam, get_or-set_same, get_or-set_other}
-use lib.Dec.{eqb, ltb}
-use borrow.Author.Tests.{eqb-true, eqb-false, ltb-true, ltb-false, lt-ltb, le-ltb}
+use lib.Dec.{ltb}
+use borrow.Author.Tests.{ltb-true, ltb-false, lt-ltb}
+use Rattle.std.specs.Prelude.{Option, Some, None}
+use Rattle.std.specs.List.{position_or_len}
+use Rattle.std.proofs.lemmas.List.{length-take-le, get_or-take}
+use Rattle.std.proofs.lemmas.List.Quantifiers.{position-Some}
+use Rattle.std.proofs.lemmas.List.Sums.{fails_before_first}
 use Rattle.sorts.specs.Numbers.{depths, grants}
 use Rattle.sorts.specs.declared.Row.{Row}
 use Rattle.sorts.specs.Blank.{no_row}
 use Rattle.rows.specs.declared.Table.{Table}
 use Rattle.rows.specs.declared.Numbering.{Numbering}
-use Rattle.rows.specs.declared.Entered.{Entered}
-use Rattle.rows.specs.Inner.Lookup.{same_row, find_from, find_row, with_row, entered}
+use Rattle.rows.specs.Inner.Lookup.{find_row, with_row, Entered, entered_at, entered}
 use Rattle.rows.specs.Written.{Grant}
 use Rattle.rows.specs.Numbering.{place, has, add}
 use Rattle.rows.specs.Form.{no_grant, write_row, depth}
 use Rattle.sorts.specs.RowForm.{RowForm}
+use Rattle.sorts.specs.contracts.RowPartialEq.TheImpl as row
+use Rattle.sorts.proofs.Same.{row_same}
 use Rattle.rows.proofs.Bytes.{no_true}
+use Rattle.rows.proofs.Deciding.{each_more}
 use Rattle.rows.proofs.Place.{place_at, place_lt}
-use Rattle.rows.proofs.RowSame.{row_eq, row_refl}
 use Rattle.rows.proofs.Rows.{RowBelow, form_below, row_ext, row_inj}
 use Rattle.rows.proofs.Shown.{Shown, length_more, distinct_more, shown_below}
 
--- looking up
-record Found (rows : List Row) (x : Row) (lo hi v : ℕ) : Type 0 where
-  low : lo ≤ v
-  high : v < hi
-  there : same_row (get_or rows v no_row) x ≡ true
+-- Looking up: the row is there, or none of the rows given is the same.
+module _ (t : Table) (x : Row) (places : length t.rows ≡ grants) (small : t.count ≤ grants) where
+  abbrev is : Row → Bool
+  is y = row.ghosts.eq y x
 
-Missing : List Row → Row → ℕ → ℕ → Type 0
-Missing rows x lo hi = (j : ℕ) → lo ≤ j → j < hi → same_row (get_or rows j no_row) x ≡ false
+  many : length (take t.count t.rows) ≡ t.count
+  many = length-take-le t.count t.rows (omega arith)
 
-from_cases : (rows : List Row) (x : Row) (i n : ℕ) → Found rows x i (i + n) (find_from rows x i n) ⊎ ((find_from rows x i n ≡ i + n) × Missing rows x i (i + n))
-unfolding find_from Missing
-from_cases rows x i zero = inr (omega arith, λ j l h. absurd (omega arith))
-from_cases rows x i (suc n) = go (same_row (get_or rows i no_row) x) refl (from_cases rows x (i + 1) n)
-  where
-    go : (q : Bool) → same_row (get_or rows i no_row) x ≡ q → Found rows x (i + 1) (i + 1 + n) (find_from rows x (i + 1) n) ⊎ ((find_from rows x (i + 1) n ≡ i + 1 + n) × Missing rows x (i + 1) (i + 1 + n)) →
-        Found rows x i (i + suc n) (cond (same_row (get_or rows i no_row) x) i (find_from rows x (i + 1) n)) ⊎
-        ((cond (same_row (get_or rows i no_row) x) i (find_from rows x (i + 1) n) ≡ i + suc n) × Missing rows x i (i + suc n))
-    go true q f = inl (rw q (record { low = omega arith; high = omega arith; there = q }))
-    go false q (inl f) = let l1 = f.low in let l2 = f.high in inl (rw q (record { low = omega arith; high = omega arith; there = f.there }))
-    go false q (inr f) = inr (rw q (f.0 ∙ omega arith), λ j l h. at j l h (eqb i j) refl)
-      where
-        at : (j : ℕ) → i ≤ j → j < i + suc n → (b : Bool) → eqb i j ≡ b → same_row (get_or rows j no_row) x ≡ false
-        at j l h true e = subst (λ (k : ℕ). same_row (get_or rows k no_row) x ≡ false) (eqb-true i j e) q
-        at j l h false e = let ne = eqb-false i j e in f.1 j (omega arith) (omega arith)
+  found : (i : ℕ) → find_row t x ≡ Some i → (i < t.count) × (get_or t.rows i no_row ≡ x)
+  found i e =
+      let p = position-Some is (take t.count t.rows) i no_row e in
+      let l : i < t.count = omega (arith, p.0, many) in
+      (l, (row_same (get_or t.rows i no_row) x).0 (ap is (sym (get_or-take t.count t.rows i no_row l)) ∙ p.1))
 
-find_cases : (rows : List Row) (x : Row) (n : ℕ) → Found rows x 0 n (find_row rows x 0 n) ⊎ ((find_row rows x 0 n ≡ n) × Missing rows x 0 n)
-unfolding find_row Missing
-find_cases rows x n = go (ltb 0 n) refl (from_cases rows x 0 (n - 0))
-  where
-    go : (q : Bool) → ltb 0 n ≡ q → Found rows x 0 (0 + (n - 0)) (find_from rows x 0 (n - 0)) ⊎ ((find_from rows x 0 (n - 0) ≡ 0 + (n - 0)) × Missing rows x 0 (0 + (n - 0))) →
-        Found rows x 0 n (cond (ltb 0 n) (find_from rows x 0 (n - 0)) n) ⊎ ((cond (ltb 0 n) (find_from rows x 0 (n - 0)) n ≡ n) × Missing rows x 0 n)
-    go true q (inl f) = let l = f.high in inl (rw q (record { low = f.low; high = omega arith; there = f.there }))
-    go true q (inr f) = inr (rw q (f.0 ∙ omega arith), λ j l h. f.1 j l (omega arith))
-    go false q f = let z : n ≤ 0 = ltb-false 0 n q in inr (rw q, λ j l h. absurd (omega arith))
+  missing : find_row t x ≡ None → (i : ℕ) → i < t.count → get_or t.rows i no_row ≡ x → ⊥
+  missing e i l h = go (ltb first (length (take t.count t.rows))) refl e
+    where
+      first : ℕ
+      first = position_or_len is (take t.count t.rows)
+
+      go : (b : Bool) → ltb first (length (take t.count t.rows)) ≡ b → ◌≡◌ {A = Option ℕ} (cond b (Some first) None) None → ⊥
+      go true q e = cc
+      go false q e =
+          let all : length (take t.count t.rows) ≤ first = ltb-false _ _ q in
+          let f : is (get_or (take t.count t.rows) i no_row) ≡ false = fails_before_first is (take t.count t.rows) i no_row (omega (arith, many)) in
+          no_true (sym f ∙ ap is (get_or-take t.count t.rows i no_row l) ∙ (row_same (get_or t.rows i no_row) x).1 h)
 
 -- the table shows N, or it had no room for all of N
 pub data Good (u : Numbering) (N : List Grant) : Type 0 where
@@ -86,25 +83,21 @@ module _ (u : Numbering) (N : List Grant) (x : Row) (room : u.full ≡ false) (R
   t = u.table
 
   -- where the row stands, its number is the grant's
-  put_old : (v : ℕ) → v < t.count → same_row (get_or t.rows v no_row) x ≡ true → Put N (write_row N x) (record { numbering = u; no = record { 0 = v } })
+  put_old : (v : ℕ) → v < t.count → get_or t.rows v no_row ≡ x → Put N (write_row N x) (record { numbering = u; no = record { 0 = v } })
   unfolding add has Names
-  put_old v lt same =
+  put_old v lt q =
       let cnt = R.counted in
       let l : v < length N = omega arith in
-      let q : get_or t.rows v no_row ≡ x = row_eq (get_or t.rows v no_row) x (R.used v lt).places F.places same in
       let h : get_or N v no_grant ≡ write_row N x = R.written v lt ∙ ap (write_row N) q in
       let p = lt-ltb _ _ (place_lt (write_row N x) N v l h) in
       record { good = rw p (tied room R); names = λ f. rw p (l, h) }
 
   -- where it does not stand, the grant is not in N
-  put_new : Missing t.rows x 0 t.count → (i : ℕ) → i < length N → get_or N i no_grant ≡ write_row N x → ⊥
-  unfolding Missing
+  put_new : ((i : ℕ) → i < t.count → get_or t.rows i no_row ≡ x → ⊥) → (i : ℕ) → i < length N → get_or N i no_grant ≡ write_row N x → ⊥
   put_new miss i l e =
       let cnt = R.counted in
       let lt : i < t.count = omega arith in
-      let q : get_or t.rows i no_row ≡ x =
-      row_inj N small R.distinct (get_or t.rows i no_row) x (shown_below R i lt) B (sym (R.written i lt) ∙ e) in
-      no_true (sym (miss i (omega arith) lt) ∙ ap (λ (y : Row). same_row y x) q ∙ row_refl x)
+      miss i lt (row_inj N small R.distinct (get_or t.rows i no_row) x (shown_below R i lt) B (sym (R.written i lt) ∙ e))
 
   not_has : ((i : ℕ) → i < length N → get_or N i no_grant ≡ write_row N x → ⊥) → has (write_row N x) N ≡ false
   unfolding has
@@ -149,27 +142,19 @@ module _ (u : Numbering) (N : List Grant) (x : Row) (room : u.full ≡ false) (R
       new_at : get_or N' t.count no_grant ≡ g
       new_at = ap (λ (n : ℕ). get_or N' n no_grant) cnt ∙ get_or-append_seam N g [] no_grant
 
-      -- what holds of the rows before the new one, and of the new one, holds of all
-      each : (P : ℕ → Type 0) → ((i : ℕ) → i < t.count → P i) → P t.count → (i : ℕ) → i < t.count + 1 → P i
-      each P old last i h = go (ltb i t.count) refl
-        where
-          go : (b : Bool) → ltb i t.count ≡ b → P i
-          go true q = old i (ltb-true _ _ q)
-          go false q = let l = ltb-false i t.count q in let e : i ≡ t.count = omega arith in subst P (sym e) last
-
       used' : (i : ℕ) → i < t.count + 1 → RowForm i (get_or (set t.rows t.count x) i no_row)
-      used' = each (λ i. RowForm i (get_or (set t.rows t.count x) i no_row))
+      used' = each_more (λ i. RowForm i (get_or (set t.rows t.count x) i no_row)) t.count
           (λ i l. subst (RowForm i) (sym (rows_old i (λ (q : i ≡ t.count). omega arith))) (R.used i l))
           (subst (RowForm t.count) (sym rows_new) (subst (λ (n : ℕ). RowForm n x) (sym cnt) F))
 
       written' : (i : ℕ) → i < t.count + 1 → get_or N' i no_grant ≡ write_row N' (get_or (set t.rows t.count x) i no_row)
-      written' = each (λ i. get_or N' i no_grant ≡ write_row N' (get_or (set t.rows t.count x) i no_row))
+      written' = each_more (λ i. get_or N' i no_grant ≡ write_row N' (get_or (set t.rows t.count x) i no_row)) t.count
           (λ i l. old_at i (omega arith) ∙ R.written i l ∙ sym (row_ext N (g ∷ []) small (get_or t.rows i no_row) (shown_below R i l)) ∙
           ap (write_row N') (sym (rows_old i (λ (q : i ≡ t.count). omega arith))))
           (new_at ∙ sym (row_ext N (g ∷ []) small x B) ∙ ap (write_row N') (sym rows_new))
 
       depths' : (i : ℕ) → i < t.count + 1 → depth (get_or N' i no_grant) ≤ depths
-      depths' = each (λ i. depth (get_or N' i no_grant) ≤ depths)
+      depths' = each_more (λ i. depth (get_or N' i no_grant) ≤ depths) t.count
           (λ i l. subst (λ (w : Grant). depth w ≤ depths) (sym (old_at i (omega arith))) (R.depths i l))
           (subst (λ (w : Grant). depth w ≤ depths) (sym new_at) D)
 
@@ -202,14 +187,20 @@ module _ (u : Numbering) (N : List Grant) (x : Row) (room : u.full ≡ false) (R
 
   pub put : Put N (write_row N x) (entered u x)
   unfolding entered more
-  put = go (find_cases t.rows x t.count)
+  put = go (find_row t x) refl
     where
-      go : Found t.rows x 0 t.count (find_row t.rows x 0 t.count) ⊎ ((find_row t.rows x 0 t.count ≡ t.count) × Missing t.rows x 0 t.count) → Put N (write_row N x) (entered u x)
-      go (inl f) = rw (lt-ltb _ _ f.high) (put_old (find_row t.rows x 0 t.count) f.high f.there)
-      go (inr f) = rw (f.0, le-ltb t.count t.count (omega arith)) (room_or (ltb t.count grants) refl (put_new f.1))
-        where
-          room_or : (b : Bool) → ltb t.count grants ≡ b → ((i : ℕ) → i < length N → get_or N i no_grant ≡ write_row N x → ⊥) →
-              Put N (write_row N x) (cond (ltb t.count grants) (record { numbering = record { table = with_row t x; full = u.full }; no = record { 0 = t.count } })
-              (record { numbering = record { table = t; full = true }; no = record { 0 = 0 } }))
-          room_or true q new = rw q (put_more new (ltb-true _ _ q))
-          room_or false q new = rw q (put_over new (ltb-false _ _ q))
+      places : length t.rows ≡ grants
+      places = R.places
+
+      given : t.count ≤ grants
+      given = let c = R.counted in omega (arith, small)
+
+      room_or : (b : Bool) → ltb t.count grants ≡ b → ((i : ℕ) → i < length N → get_or N i no_grant ≡ write_row N x → ⊥) →
+          Put N (write_row N x) (cond b (record { numbering = record { table = with_row t x; full = u.full }; no = record { 0 = t.count } })
+          (record { numbering = record { table = t; full = true }; no = record { 0 = 0 } }))
+      room_or true q new = put_more new (ltb-true _ _ q)
+      room_or false q new = put_over new (ltb-false _ _ q)
+
+      go : (o : Option ℕ) → find_row t x ≡ o → Put N (write_row N x) (entered_at u x o)
+      go (Some i) e = let f = found t x places given i e in put_old i f.0 f.1
+      go None e = room_or (ltb t.count grants) refl (put_new (missing t x places given e))

@@ -24,9 +24,6 @@ use Rattle.sorts.specs.RowForm.{ConclForm, RowForm}
 use Rattle.rows.proofs.Place.{Distinct}
 use Rattle.rows.proofs.RowSame.{row_path}
 
-pub clash : {A : Type 0} → ◌≡◌ {A = ℕ} 0 1 → A
-clash z = absurd (omega arith)
-
 -- the grants that a row holds have numbers below n, or are the variable
 abbrev pub ResBelow : ℕ → r.Res → Type 0
 ResBelow n (Issue g) = (g.0 < n) ⊎ (g.0 ≡ 128)
@@ -108,10 +105,10 @@ module _ (N : List Grant) (small : length N ≤ grants) (dis : Distinct N) where
       dis g h a b f
   issue_inj g h (inl a) (inr b) e =
       let d : issue (get_or N g no_grant) ≡ issue_any = sym (write_issue N g (omega arith)) ∙ e ∙ write_any N h b in
-      let z : ◌≡◌ {A = ℕ} 0 1 = cc in clash z
+      cc
   issue_inj g h (inr a) (inl b) e =
       let d : issue_any ≡ issue (get_or N h no_grant) = sym (write_any N g a) ∙ e ∙ write_issue N h (omega arith) in
-      let z : ◌≡◌ {A = ℕ} 0 1 = cc in clash z
+      cc
   issue_inj g h (inr a) (inr b) e = a ∙ sym b
 
   -- an issue right is not written like another right
@@ -120,10 +117,10 @@ module _ (N : List Grant) (small : length N ≤ grants) (dis : Distinct N) where
   issue_not g (inr a) x f k e = k (sym e ∙ write_any N g a)
 
   run_not : (n : ℕ) → ((w : Grant) → run n ≡ issue w → ⊥) × (run n ≡ issue_any → ⊥)
-  run_not n = (λ w e. let z : ◌≡◌ {A = ℕ} 0 1 = cc in clash z, λ e. let z : ◌≡◌ {A = ℕ} 0 1 = cc in clash z)
+  run_not n = (λ w e. cc, λ e. cc)
 
   export_not : (n : ℕ) → ((w : Grant) → export n ≡ issue w → ⊥) × (export n ≡ issue_any → ⊥)
-  export_not n = (λ w e. let z : ◌≡◌ {A = ℕ} 0 1 = cc in clash z, λ e. let z : ◌≡◌ {A = ℕ} 0 1 = cc in clash z)
+  export_not n = (λ w e. cc, λ e. cc)
 
   res_inj : (x y : r.Res) → ResBelow (length N) x → ResBelow (length N) y → write_res N x ≡ write_res N y → x ≡ y
   res_inj (Issue g) (Issue h) p q e = ap Issue (grant_is g h (issue_inj g.0 h.0 p q e))
@@ -131,9 +128,9 @@ module _ (N : List Grant) (small : length N ≤ grants) (dis : Distinct N) where
   res_inj (Issue g) (Export n) p q e = absurd (issue_not g.0 p (export n.0) (export_not n.0).0 (export_not n.0).1 e)
   res_inj (Run m) (Issue h) p q e = absurd (issue_not h.0 q (run m.0) (run_not m.0).0 (run_not m.0).1 (sym e))
   res_inj (Run m) (Run n) p q e = let d : m.0 ≡ n.0 = cc in ap Run (pack_is m n d)
-  res_inj (Run m) (Export n) p q e = let z : ◌≡◌ {A = ℕ} 0 1 = cc in clash z
+  res_inj (Run m) (Export n) p q e = cc
   res_inj (Export m) (Issue h) p q e = absurd (issue_not h.0 q (export m.0) (export_not m.0).0 (export_not m.0).1 (sym e))
-  res_inj (Export m) (Run n) p q e = let z : ◌≡◌ {A = ℕ} 0 1 = cc in clash z
+  res_inj (Export m) (Run n) p q e = cc
   res_inj (Export m) (Export n) p q e = let d : m.0 ≡ n.0 = cc in ap Export (pack_is m n d)
 
   concl_inj : (x y : rc.Concl) → ConclBelow (length N) x → ConclBelow (length N) y → write_concl N x ≡ write_concl N y → x ≡ y
@@ -142,8 +139,8 @@ module _ (N : List Grant) (small : length N ≤ grants) (dis : Distinct N) where
       let f : p.0 ≡ q.0 = cc in
       let g = prin_is p q f in
       cc
-  concl_inj (Property k p) (Perm q y) a b e = let z : ◌≡◌ {A = ℕ} 0 1 = cc in clash z
-  concl_inj (Perm p x) (Property l q) a b e = let z : ◌≡◌ {A = ℕ} 0 1 = cc in clash z
+  concl_inj (Property k p) (Perm q y) a b e = cc
+  concl_inj (Perm p x) (Property l q) a b e = cc
   concl_inj (Perm p x) (Perm q y) a b e =
       let f : p.0 ≡ q.0 = cc in
       let g = prin_is p q f in
@@ -155,8 +152,8 @@ module _ (N : List Grant) (small : length N ≤ grants) (dis : Distinct N) where
   conds_many : (cs ds : List Cond) (i k l : ℕ) → write_conds N cs i k ≡ write_conds N ds i l → k ≡ l
   unfolding write_conds
   conds_many cs ds i zero zero e = refl
-  conds_many cs ds i zero (suc l) e = let z : ◌≡◌ {A = ℕ} 0 1 = cc in clash z
-  conds_many cs ds i (suc k) zero e = let z : ◌≡◌ {A = ℕ} 0 1 = cc in clash z
+  conds_many cs ds i zero (suc l) e = cc
+  conds_many cs ds i (suc k) zero e = cc
   conds_many cs ds i (suc k) (suc l) e =
       let d : write_conds N cs (i + 1) k ≡ write_conds N ds (i + 1) l = cc in
       ap suc (conds_many cs ds (i + 1) k l d)

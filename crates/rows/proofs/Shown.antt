@@ -5,7 +5,7 @@ use mathlib.Core.Bool.{Bool, true, false}
 use mathlib.Core.Path.{◌≡◌, refl, sym, ap, subst, ◌∙◌}
 use native.Mathlib.Omega.{arith}
 use native.Mathlib.Nat.{not-suc-le-zero}
-use lib.ListN.{length, get_or, take, drop, length-append, replicate, get_or-replicate, length-replicate, get_or-append}
+use lib.ListN.{length, get_or, take, drop, take-append-drop, length-append, replicate, get_or-replicate, length-replicate, get_or-append}
 use lib.Seq.{get_or-append_seam, take-suc, length-take-le, take-length}
 use lib.Dec.{ltb}
 use borrow.Author.Tests.{ltb-true, ltb-false}
@@ -139,18 +139,13 @@ module _ {rows : List Row} {count : ℕ} {N : List Grant} (R : Shown rows count 
       let c = R.counted in
       let l : k < length N = omega arith in
       let s : length (take k N) ≡ k = length-take-le k N (omega arith) in
-      let split : N ≡ take k N ++ drop k N = parts k N in
+      let split : N ≡ take k N ++ drop k N = sym (take-append-drop k N) in
       let b : RowBelow (length (take k N)) (get_or rows k no_row) = below_up k (length (take k N)) (get_or rows k no_row) (omega arith) (form_below k (get_or rows k no_row) (R.used k (omega arith))) in
       let m = R.small in
       let w : write_row (take k N) (get_or rows k no_row) ≡ get_or N k no_grant =
       sym (row_ext (take k N) (drop k N) (omega arith) (get_or rows k no_row) b) ∙ ap (λ (M : List Grant). write_row M (get_or rows k no_row)) (sym split) ∙ sym (R.written k (omega arith)) in
       ap (λ (M : List Grant). M ++ (write_row M (get_or rows k no_row) ∷ [])) (out_take k (omega arith)) ∙
       ap (λ (g : Grant). take k N ++ (g ∷ [])) w ∙ sym (take-suc N k no_grant l)
-    where
-      parts : (n : ℕ) (l : List Grant) → l ≡ take n l ++ drop n l
-      parts zero l = refl
-      parts (suc n) [] = refl
-      parts (suc n) (x ∷ l) = ap (λ (y : List Grant). x ∷ y) (parts n l)
 
   pub shown_out : rows_out rows count ≡ N
   shown_out = let c = R.counted in out_take count (omega arith) ∙ ap (λ (n : ℕ). take n N) c ∙ take-length N

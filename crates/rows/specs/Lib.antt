@@ -1,5 +1,6 @@
 pub mod Written
 pub mod Numbering
 pub mod Form
+pub mod Numbers
 pub mod Allowed
 pub mod Inner

@@ -1,12 +1,12 @@
 -- Reading a content over a table, as the code does it.
-use Rattle.std.specs.Prelude.{ℕ, ◌-◌, List, Bool, false, cond, leb}
+use Rattle.std.specs.Prelude.{ℕ, ◌-◌, List, Bool, false, Result, Ok, Err, cond, leb}
+use Rattle.sorts.specs.declared.Concl.{Concl}
 use Rattle.sorts.specs.declared.GrantNo.{GrantNo}
 use Rattle.sorts.specs.declared.Prin.{Prin}
+use Rattle.sorts.specs.declared.Refusal.{Refusal}
 use Rattle.sorts.specs.Numbers.{speakers}
 use Rattle.rows.specs.declared.Table.{Table}
 use Rattle.rows.specs.declared.Numbering.{Numbering}
-use Rattle.grants.specs.declared.GrantReading.{GrantReading}
-use Rattle.grants.specs.declared.ConclReading.{ConclReading}
 use Rattle.frames.specs.declared.Kind.{Kind}
 use Rattle.frames.specs.declared.Kind.TheVariants.{Tg, St, Li, Wd, Qu, Pl, Cf, Pv}
 use Rattle.sorts.specs.declared.Status.{Status}
@@ -22,7 +22,7 @@ use Rattle.contents.specs.declared.Found.TheVariants.{Asks, Full, Unknown, Refus
 use Rattle.contents.specs.declared.Reading.{Reading}
 use Rattle.ranges.specs.Bytes.{upto}
 use Rattle.contents.specs.Records.{nothing_declared}
-use Rattle.grants.specs.Inner.OnePass.{on_outcome, on_grant, on_concl}
+use Rattle.grants.specs.Inner.OnePass.{Numbered, on_outcome}
 use Rattle.canonread.specs.Inner.Again.{num_form, num_concl_form}
 
 -- the table before the first grant of a record is numbered
@@ -30,15 +30,20 @@ abbrev pub starting : Table → Numbering
 starting t = record { table = t; full = false }
 
 -- a refusal that uses n bytes, and one that uses none
-abbrev pub no_r : Table → ℕ → ℕ → Reading
+abbrev pub no_r : Table → ℕ → Refusal → Reading
 no_r t n k = record { table = t; found = Refused k n }
+
+-- what a reader's answer is of a content over the table t: a fault leaves the table, and uses no bytes
+abbrev pub settled : Table → Result Reading Refusal → Reading
+settled t (Ok r) = r
+settled t (Err k) = no_r t 0 k
 
 -- a request with its grants numbered; nothing is numbered where the numbers do not reach
 unfoldable pub given : Table → Numbering → Request → ℕ → Reading
 given t u q n = cond u.full (record { table = t; found = Full n }) (record { table = u.table; found = Asks q n })
 
-abbrev pub entry_of : Status → Table → GrantReading → Reading
-entry_of by t r = on_grant r.out (no_r t 0) (λ g n. given t r.numbering (Enter by g) n)
+abbrev pub entry_of : Status → Table → Numbered GrantNo → Reading
+entry_of by t r = on_outcome r.out (no_r t 0) (λ g n. given t r.numbering (Enter by g) n)
 
 unfoldable pub num_entry : Status → List ℕ → ℕ → Table → Reading
 num_entry by s at t = entry_of by t (num_form s at (starting t))
@@ -53,14 +58,14 @@ asked (revision.Preview p) g = Preview p g
 unfoldable pub known : ℕ → Bool → Revision → GrantNo → ℕ → Found
 known count full v g n = cond full (Unknown n) (cond (leb count g.0) (Unknown n) (Asks (asked v g) n))
 
-abbrev pub revision_of : Revision → Table → GrantReading → Reading
-revision_of v t r = on_grant r.out (no_r t 0) (λ g n. record { table = t; found = known t.count r.numbering.full v g n })
+abbrev pub revision_of : Revision → Table → Numbered GrantNo → Reading
+revision_of v t r = on_outcome r.out (no_r t 0) (λ g n. record { table = t; found = known t.count r.numbering.full v g n })
 
 unfoldable pub num_revision : Revision → List ℕ → ℕ → Table → Reading
 num_revision v s at t = revision_of v t (num_form s at (starting t))
 
-abbrev pub query_of : Table → ConclReading → Reading
-query_of t r = on_concl r.out (no_r t 0) (λ c n. given t r.numbering (Query c) n)
+abbrev pub query_of : Table → Numbered Concl → Reading
+query_of t r = on_outcome r.out (no_r t 0) (λ c n. given t r.numbering (Query c) n)
 
 unfoldable pub num_query : List ℕ → ℕ → Table → Reading
 num_query s at t = query_of t (num_concl_form nothing_declared s at (starting t))

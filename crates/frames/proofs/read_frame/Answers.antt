@@ -1,9 +1,9 @@
-use mathlib.Core.Path.{sym, ◌∙◌}
+use Rattle.std.proofs.Common.{rules, sym, ◌∙◌}
 use Rattle.frames.proofs.Framing.{frame_no, frame_opens}
 use Rattle.frames.proofs.read_frame.Goals as goal
 
-pub returns-in-No : goal.returns-in-No
-returns-in-No c = frame_no _ _ (sym c.read_mark.ensures ∙ c.in-No.is)
+pub returns-in_err-k : goal.returns-in_err-k
+returns-in_err-k c = let e = frame_no c.args.s.now c.in_err-k.field-0.0 (sym c.read_mark.ensures ∙ c.in_err-k.was) in search rules
 
-pub returns-in-Got : goal.returns-in-Got
-returns-in-Got c = frame_opens _ _ _ c.read_length.result (sym c.read_mark.ensures ∙ c.in-Got.is) c.read_length.ensures
+pub returns : goal.returns
+returns c = frame_opens _ _ _ c.read_content.result (sym c.read_mark.ensures ∙ c.in_ok-k.was) c.read_content.ensures

@@ -1,0 +1,20 @@
+-- Each inner grant leaves one depth less.
+use Rattle.std.proofs.Common.{◌≡◌, ◌+◌, ◌*◌, ◌-◌}
+use Rattle.grants.specs.Inner.OnePass.{blank_conds, num_conds, num_grant}
+use Rattle.grants.proofs.+grants.Given as goal
+
+abbrev pub decreases-read_concl : goal.decreases-read_concl
+decreases-read_concl l = 4 * l.below + 2
+
+abbrev pub decreases-read_conds : goal.decreases-read_conds
+decreases-read_conds l = 4 * l.below + 3
+
+abbrev pub decreases-read_grant : goal.decreases-read_grant
+decreases-read_grant l = 4 * l.left
+
+abbrev pub decreases-read_issue : goal.decreases-read_issue
+decreases-read_issue l = 4 * l.below + 1
+
+abbrev pub invariant-read_conds-loop-i : goal.invariant-read_conds-loop-i
+invariant-read_conds-loop-i l =
+    num_conds (num_grant l.below l.s) l.v l.s l.count l.fn.at 0 blank_conds l.fn.t ≡ num_conds (num_grant l.below l.s) l.v l.s (l.count - l.i) l.n l.i l.conds l.t
