@@ -1,19 +1,12 @@
 -- Comparing numbers, one after the other and packed into one; and words, by key and then by inner grant.
 use Prim.Native.Nat.{ℕ, zero, suc, ◌+◌, ◌*◌, ◌/◌, ◌%◌, ◌<◌, compare, Ordering}
-use mathlib.Core.Bool.{Bool, true, false, not}
-use mathlib.Core.List.{List}
-use mathlib.Core.Logic.{◌⊎◌, inl, inr}
-use lib.Dec.{eqb, ltb}
-use borrow.Author.Tests.{eqb-true, eqb-false}
-use Rattle.sorts.specs.Decides.{Decides}
-use Rattle.rows.proofs.Deciding.{lt_decides}
-use mathlib.Core.Path.{◌≡◌, refl, sym, ap, ◌∙◌}
+use mathlib.Core.Path.{◌≡◌, refl, ap, ◌∙◌}
 use native.Mathlib.Omega.{arith}
 use native.Mathlib.Nat.{div-add-mod, mod-lt}
 use native.Mathlib.Numerals.{add-one}
 use Rattle.canon.specs.Canon.{and_then}
 use Rattle.canon.proofs.Order.{lt_eq, flip, compare_refl, compare_eq, compare_lt, lt_compare, compare_flip}
-use Rattle.ascending.specs.Inner.Words.{by_word, Inside, Told}
+use Rattle.ascending.specs.Inner.Words.{by_word}
 
 pub gt_compare : (a b : ℕ) → b < a → compare a b ≡ Ordering.gt
 gt_compare a b h = compare_flip b a ∙ ap flip (lt_compare b a h)
@@ -65,34 +58,8 @@ module _ (f : ℕ → ℕ → Ordering) where
   pub by_parts : (v w k l i j : ℕ) → v ≡ 256 * k + i → w ≡ 256 * l + j → i < 256 → j < 256 → by_word f v w ≡ and_then (compare k l) (f i j)
   by_parts v w k l i j d e p q = rw (word_key v k i d p, word_key w l j e q, word_inner v k i d p, word_inner w l j e q)
 
-  pub same_keys : (v w : ℕ) → v / 256 ≡ w / 256 → by_word f v w ≡ f (v % 256) (w % 256)
-  same_keys v w e = skip (compare (v / 256) (w / 256)) (f (v % 256) (w % 256)) (ap (λ (k : ℕ). compare k (w / 256)) e ∙ compare_refl (w / 256))
-
   pub key_below : (v w : ℕ) → v / 256 < w / 256 → by_word f v w ≡ Ordering.lt
   key_below v w l = ap (λ (o : Ordering). and_then o (f (v % 256) (w % 256))) (lt_compare (v / 256) (w / 256) l)
-
-  pub below_key : (v w : ℕ) → (v / 256 ≡ w / 256 → ⊥) → by_word f v w ≡ Ordering.lt → v / 256 < w / 256
-  below_key v w n e = compare_lt (v / 256) (w / 256) (sym (decided (compare (v / 256) (w / 256)) (f (v % 256) (w % 256)) (λ q. n (compare_eq (v / 256) (w / 256) q))) ∙ e)
-
--- The last test of whether two inner grants decide.
-pub inside_last : (v w : ℕ) → v / 256 ≡ w / 256 → (v % 256 ≡ w % 256 → ⊥) → (v % 256 ≡ 0 → ⊥) → Inside (not (eqb (w % 256) 0)) v w
-inside_last v w e n a = go (eqb (w % 256) 0) refl
-  where
-    go : (r : Bool) → eqb (w % 256) 0 ≡ r → Inside (not r) v w
-    go true q = λ k. inr (inr (eqb-true (w % 256) 0 q))
-    go false q = let b = eqb-false (w % 256) 0 q in (e, omega arith, omega arith, n)
-
--- Where no inner grants decide, the keys do.
-module _ (f : ℕ → ℕ → Ordering) (words : List ℕ) (n : ℕ) (told : Told f words n) where
-  no_inside : (v w : ℕ) → v / 256 ≡ w / 256 → (v % 256 ≡ w % 256) ⊎ (v % 256 ≡ 0) ⊎ (w % 256 ≡ 0) → by_word f v w ≡ Ordering.eq
-  no_inside v w e (inl h) = same_keys f v w e ∙ ap (λ (i : ℕ). f i (w % 256)) h ∙ told.same (w % 256)
-  no_inside v w e (inr (inl h)) = same_keys f v w e ∙ ap (λ (i : ℕ). f i (w % 256)) h ∙ told.left (w % 256)
-  no_inside v w e (inr (inr h)) = same_keys f v w e ∙ ap (f (v % 256)) h ∙ told.right (v % 256)
-
-  pub keys_decide : (v w : ℕ) (r : Bool) → r ≡ false → Inside r v w → Decides (ltb (v / 256) (w / 256)) (by_word f v w ≡ Ordering.lt)
-  keys_decide v w r q i =
-      let none : Inside false v w = rw q at i in
-      lt_decides (v / 256) (w / 256) (key_below f v w) (λ e. below_key f v w (λ k. lt_eq (sym e ∙ no_inside v w k (none k))) e)
 
 -- An order of numbers counted from 1, with 0 for none.
 unfoldable pub counted : (ℕ → ℕ → Ordering) → ℕ → ℕ → Ordering

@@ -166,13 +166,6 @@ module _ (f : ℕ → ℕ → Ordering) where
     -- Words that stand as the same are the same.
 
     module _ (apart : (i j : ℕ) → i < m → j < n → f i j ≡ Ordering.eq → i ≡ j) where
-      pub concl_apart : (d e : Concl) → ConclForm m v s d → ConclForm n w t e → by_word (counted f) (concl_word d) (concl_word e) ≡ Ordering.eq → concl_word d ≡ concl_word e
-      unfolding concl_word
-      concl_apart d e a b q =
-          let r = both_eq (compare (concl_key d) (concl_key e)) (counted f (concl_inner d) (concl_inner e)) (sym (concl_by_lem m n v s w t d e a b) ∙ concl_words d e a b ∙ q) in
-          let k = compare_eq (concl_key d) (concl_key e) r.0 in
-          ap₂ (λ (x y : ℕ). 256 * x + y) k (concl_same m n v s w t d e apart a b k r.1)
-
       pub cond_apart : (a b : Cond) → CondForm m v s a → CondForm n w t b → by_word (counted f) (cond_word a) (cond_word b) ≡ Ordering.eq → cond_word a ≡ cond_word b
       unfolding cond_word cond_key
       cond_apart a b g h q =

@@ -29,7 +29,7 @@ use Rattle.canon.proofs.Compare.{when_eq, cmp_refl, cmp_eq}
 use Rattle.canon.proofs.RowOrder.{row_by_lem, row_form, form_row}
 use Rattle.canon.specs.CanonicalRows.{CanonicalRows}
 use Rattle.rowwords.specs.Words.{concl_word, concl_inner, cond_key, cond_word, header_word, row_word}
-use Rattle.ascending.specs.Inner.Words.{Laid, by_word, Told, NextAbove, KeyBelow, KeysAscend}
+use Rattle.ascending.specs.Inner.Words.{word, Laid, by_word, Told, NextAbove, KeyBelow, KeysAscend}
 use Rattle.ascending.proofs.Comparing.{packed, skip, decided, both_eq, word_inner, by_parts, key_below, counted, counted_at, counted_left, counted_right, counted_same}
 use Rattle.ascending.proofs.Keys.{concl_inner_lem, concl_words, cond_words, cond_apart}
 use Rattle.ascending.proofs.Places.{Worded}
@@ -184,7 +184,7 @@ module _ (t : Table) (form : TableForm t) where
   stands_same : (i : ℕ) → stands i i ≡ Ordering.eq
   stands_same i = cmp_refl (get_or N i no_grant)
 
-  module _ (words : List ℕ) (n : ℕ) (few : n ≤ t.count) (worded : Worded words t.rows n) where
+  module _ (words : List (List ℕ)) (n : ℕ) (few : n ≤ t.count) (worded : Worded words t.rows n) where
     -- The words of the rows tell how the grants stand,
     pub told : Told (counted stands) words n
     told = record {
@@ -193,8 +193,8 @@ module _ (t : Table) (form : TableForm t) where
       right = counted_right stands;
       first = λ i j k a b ne h.
           let s = form.count in
-          let u : row_word (row i) k ≡ get_or words (6 * i + k) 0 = sym (worded i a k h.inside) in
-          let v : row_word (row j) k ≡ get_or words (6 * j + k) 0 = sym (worded j b k h.inside) in
+          let u : row_word (row i) k ≡ word words i k = sym (worded i a k h.inside) in
+          let v : row_word (row j) k ≡ word words j k = sym (worded j b k h.inside) in
           counted_at stands i j ∙ stands_rows i j (omega arith) (omega arith)
           ∙ first_words stands stands_same i j (row i) (row j) (omega arith) (omega arith) (form.used i (omega arith)) (form.used j (omega arith))
           (λ p q x y. stands_apart p q (omega arith) (omega arith)) k h.inside
@@ -204,24 +204,22 @@ module _ (t : Table) (form : TableForm t) where
     }
 
     -- and hold lower numbers only.
-    pub laid : 6 * n ≤ length words → Laid words n
+    pub laid : n ≤ length words → Laid words n
     laid l = record {
       long = l;
       lower = λ i k a b. let s = form.count in rw (worded i a k b) (row_inner i (row i) k (omega arith) (form.used i (omega arith)));
     }
 
     -- The words of two neighbours stand as the conditions do.
-    next_by : (i j : ℕ) → i < n → j + 1 < (row i).count → cond_by stands (get_or (row i).conds j blank_cond) (get_or (row i).conds (j + 1) blank_cond) ≡ by_word (counted stands) (get_or words (6 * i + j + 1) 0) (get_or words (6 * i + j + 2) 0)
+    next_by : (i j : ℕ) → i < n → j + 1 < (row i).count → cond_by stands (get_or (row i).conds j blank_cond) (get_or (row i).conds (j + 1) blank_cond) ≡ by_word (counted stands) (word words i (j + 1)) (word words i (j + 2))
     next_by i j a h =
         let s = form.count in
         let f = form.used i (omega arith) in
         let c = f.count in
         let e : j + 2 ≡ j + 1 + 1 = omega arith in
-        let one : 6 * i + j + 1 ≡ 6 * i + (j + 1) = omega arith in
-        let two : 6 * i + j + 2 ≡ 6 * i + (j + 2) = omega arith in
         cond_words stands i i (row i).prins (row i).res (row i).prins (row i).res (omega arith) (omega arith) (get_or (row i).conds j blank_cond) (get_or (row i).conds (j + 1) blank_cond) (f.used j (omega arith)) (f.used (j + 1) (omega arith))
-        ∙ ap₂ (by_word (counted stands)) (sym (ap (λ (z : ℕ). get_or words z 0) one ∙ worded i a (j + 1) (omega arith) ∙ row_cond (row i) j (omega arith)))
-        (sym (ap (λ (z : ℕ). get_or words z 0) two ∙ worded i a (j + 2) (omega arith) ∙ ap (row_word (row i)) e ∙ row_cond (row i) (j + 1) (omega arith)))
+        ∙ ap₂ (by_word (counted stands)) (sym (worded i a (j + 1) (omega arith) ∙ row_cond (row i) j (omega arith)))
+        (sym (worded i a (j + 2) (omega arith) ∙ ap (row_word (row i)) e ∙ row_cond (row i) (j + 1) (omega arith)))
 
     -- A test of the words of a row decides whether its conditions ascend.
     pub row_decides : (i : ℕ) (r : Bool) → i < n → Decides r ((j : ℕ) → j + 1 < (row i).count → NextAbove (counted stands) words i j) → Decides r (Ascends stands (row i))

@@ -9,7 +9,3 @@ decided_no A b e d = subst (λ (x : Bool). Decides x A) (not-true b e) d
 
 pub decided_yes : (A : Type 0) (b : Bool) → not b ≡ false → Decides b A → A
 decided_yes A b e d = subst (λ (x : Bool). Decides x A) (not-false b e) d
-
-pub decides_as : (A B : Type 0) (b : Bool) → (A → B) → (B → A) → Decides b A → Decides b B
-decides_as A B true f g d = f d
-decides_as A B false f g d = λ x. d (g x)

@@ -10,7 +10,7 @@ use marks::bits;
 use rows::Table;
 use sorts::{Number, Row, Status};
 
-// The grant table, and how each of its grants stands: the flags of each row.
+// The grant table, and how each of its grants stands: the flags of each row. A flag is a byte, since a book that is lent may hold any.
 #[derive(Clone, Copy)]
 pub struct Book {
     pub table: Table,
@@ -22,11 +22,11 @@ impl Book {
     pub fn new() -> Book
         ensures { result ≡ fresh_book }
     {
-        let r = Row::blank();
-        let rows = [r; Table::ROWS];
-        let flags = [0u8; Status::ALL];
-        let table = Table { rows, count: 0 };
-        Book { table, flags }
+        let rows = [Row::blank(); Table::ROWS];
+        Book {
+            table: Table { rows, count: 0 },
+            flags: [0; Status::ALL],
+        }
     }
 }
 
@@ -44,26 +44,11 @@ fn marks_ok(marks: &[u8]) -> bool
 pub fn in_form(b: Book, marks: &[u8], second: &[u8]) -> bool
     ensures { Decides result (BookForm b marks.now second.now) }
 {
-    if !marks_ok(marks) {
-        return false;
-    }
-    if !marks_ok(second) {
-        return false;
-    }
-    let t = b.table;
-    let flags = b.flags;
-    if !form::table_in_form(t) {
-        return false;
-    }
-    if !ascending::conditions_ascend(t) {
-        return false;
-    }
-    if !bits::bits(&flags) {
-        return false;
-    }
-    let n = t.count;
-    if !bits::zero_from(&flags, Status::FLAGS * n) {
-        return false;
-    }
-    changes::apart(&flags, n)
+    marks_ok(marks)
+        && marks_ok(second)
+        && form::table_in_form(b.table)
+        && ascending::conditions_ascend(b.table)
+        && bits::bits(&b.flags)
+        && bits::zero_from(&b.flags, Status::FLAGS * b.table.count)
+        && changes::apart(&b.flags, b.table.count)
 }

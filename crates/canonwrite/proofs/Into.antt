@@ -13,7 +13,7 @@ use Rattle.rows.specs.Allowed.{Allowed, AllowedConds, AllowedConcl, AllowedRight
 use Rattle.rows.specs.Form.{depth, depth_conds, depth_concl, depth_right}
 use Rattle.canon.specs.Canon.{pick, order, cond_bytes, insert, canon, canon_conds, canon_concl, canon_right}
 use Rattle.canonwrite.specs.Model.{put_segment, joined}
-use Rattle.segments.specs.declared.Seat.TheVariants.{There, Before}
+use Rattle.std.specs.Prelude.{Option, Some, None}
 use Rattle.segments.specs.Segments.{part, turn, seat}
 use Rattle.canonwrite.specs.Buffer.{Spot, Kept, seated, put_concl, put_in, put_conds, put_with, put_grant}
 use Rattle.canon.proofs.Size.{larger_max, concl_length}
@@ -66,23 +66,27 @@ segments_at out e (y ∷ ys) Q R t l =
       rw (length-append Q y) at (segments_at out e ys (Q ++ y) R (t ∙ ap (λ (l : List ℕ). Q ++ l) (append_assoc y (joined ys) R) ∙ sym (append_assoc Q y (joined ys ++ R))) (omega arith)),
     )
 
+-- the seat before segment k, at place p
+abbrev before : ℕ → ℕ → Option (ℕ × ℕ)
+before k p = Some (k, p)
+
 -- where a segment stands among them
-seek : (x out : List ℕ) (ps : List (List ℕ)) (k b : ℕ) → SegmentsAt out b ps → seat x out k b (map length ps) ≡ cond (there x ps) There (Before (k + below x ps) (b + length (joined (take (below x ps) ps))))
+seek : (x out : List ℕ) (ps : List (List ℕ)) (k b : ℕ) → SegmentsAt out b ps → seat x out k b (map length ps) ≡ cond (there x ps) None (before (k + below x ps) (b + length (joined (take (below x ps) ps))))
 unfolding seat below there
-seek x out [] k b h = ap₂ Before (omega arith) (omega arith)
-seek x out (y ∷ ys) k b h = ap (λ (l : List ℕ). pick (order x l) (Before k b) There (seat x out (k + 1) (b + length y) (map length ys))) h.0 ∙ go (order x y) (seek x out ys (k + 1) (b + length y) h.1)
+seek x out [] k b h = ap₂ before (omega arith) (omega arith)
+seek x out (y ∷ ys) k b h = ap (λ (l : List ℕ). pick (order x l) (before k b) None (seat x out (k + 1) (b + length y) (map length ys))) h.0 ∙ go (order x y) (seek x out ys (k + 1) (b + length y) h.1)
   where
     place : b + length y + length (joined (take (below x ys) ys)) ≡ b + length (y ++ joined (take (below x ys) ys))
     place = omega (arith, length-append y (joined (take (below x ys) ys)))
 
-    on : (t : Bool) → cond t There (Before (k + 1 + below x ys) (b + length y + length (joined (take (below x ys) ys)))) ≡ cond t There (Before (k + suc (below x ys)) (b + length (y ++ joined (take (below x ys) ys))))
+    on : (t : Bool) → cond t None (before (k + 1 + below x ys) (b + length y + length (joined (take (below x ys) ys)))) ≡ cond t None (before (k + suc (below x ys)) (b + length (y ++ joined (take (below x ys) ys))))
     on true = refl
-    on false = ap₂ Before (omega arith) place
+    on false = ap₂ before (omega arith) place
 
-    go : (o : Ordering) → seat x out (k + 1) (b + length y) (map length ys) ≡ cond (there x ys) There (Before (k + 1 + below x ys) (b + length y + length (joined (take (below x ys) ys))))
-        → pick o (Before k b) There (seat x out (k + 1) (b + length y) (map length ys))
-        ≡ cond (pick o false true (there x ys)) There (Before (k + pick o zero zero (suc (below x ys))) (b + length (joined (take (pick o zero zero (suc (below x ys))) (y ∷ ys)))))
-    go Ordering.lt ih = ap₂ Before (omega arith) (omega arith)
+    go : (o : Ordering) → seat x out (k + 1) (b + length y) (map length ys) ≡ cond (there x ys) None (before (k + 1 + below x ys) (b + length y + length (joined (take (below x ys) ys))))
+        → pick o (before k b) None (seat x out (k + 1) (b + length y) (map length ys))
+        ≡ cond (pick o false true (there x ys)) None (before (k + pick o zero zero (suc (below x ys))) (b + length (joined (take (pick o zero zero (suc (below x ys))) (y ∷ ys)))))
+    go Ordering.lt ih = ap₂ before (omega arith) (omega arith)
     go Ordering.eq ih = refl
     go Ordering.gt ih = ih ∙ on (there x ys)
 
@@ -160,7 +164,7 @@ module _ (P : List ℕ) (ps : List (List ℕ)) (x out : List ℕ) (to : ℕ) (on
   turned_in : Kept
   turned_in = record { out = turn one.out (length P + length (joined (take (below x ps) ps))) to one.to; at = one.at; to = one.to; lens = take (below x ps) (map length ps) ++ (length x ∷ drop (below x ps) (map length ps)) }
 
-  seat_is : (t : Bool) → seated to (map length ps) one (cond t There (Before (0 + below x ps) (length P + length (joined (take (below x ps) ps))))) ≡ cond t left_out turned_in
+  seat_is : (t : Bool) → seated to (map length ps) one (cond t None (before (0 + below x ps) (length P + length (joined (take (below x ps) ps))))) ≡ cond t left_out turned_in
   unfolding left_out turned_in
   seat_is true = refl
   seat_is false =

@@ -2,6 +2,7 @@
 use Prim.Native.Nat.{ℕ, zero, suc, ◌+◌, ◌-◌, ◌*◌, ◌≤◌, ◌<◌, min}
 use mathlib.Core.Bool.{Bool, true, false, cond, ◌&&◌}
 use mathlib.Core.List.{List, []}
+use mathlib.Core.Logic.{◌⊎◌, inl, inr}
 use mathlib.Core.Path.{◌≡◌, refl, sym, ◌∙◌, ap}
 use native.Mathlib.Omega.{arith}
 use lib.ListN.{length, get_or, set}
@@ -53,11 +54,16 @@ module _ (inner : ℕ → List ℕ → ℕ → Spot) (s : List ℕ) (at : ℕ) (
   second true b e = rw e
   second false b e = refl
 
-  pub concl_other : (get_or s at 0 ≡ 1 → ⊥) → put_concl inner s at out to ≡ plain
+  concl_other : (get_or s at 0 ≡ 1 → ⊥) → put_concl inner s at out to ≡ plain
   concl_other h = split (eqb (get_or s at 0) 1) (eqb (get_or s (at + 2) 0) 0) refl refl ∙ both (eqb (get_or s at 0) 1) (eqb (get_or s (at + 2) 0) 0) (ne_eqb (get_or s at 0) 1 h)
 
-  pub concl_any : (get_or s (at + 2) 0 ≡ 0 → ⊥) → put_concl inner s at out to ≡ plain
+  concl_any : (get_or s (at + 2) 0 ≡ 0 → ⊥) → put_concl inner s at out to ≡ plain
   concl_any h = split (eqb (get_or s at 0) 1) (eqb (get_or s (at + 2) 0) 0) refl refl ∙ second (eqb (get_or s at 0) 1) (eqb (get_or s (at + 2) 0) 0) (ne_eqb (get_or s (at + 2) 0) 0 h)
+
+  -- no right over a grant
+  pub concl_plain : (kind form : ℕ) → kind ≡ get_or s at 0 → form ≡ get_or s (at + 2) 0 → ((kind ≡ 1) × (form ≡ 0 → ⊥)) ⊎ (kind ≡ 1 → ⊥) → put_concl inner s at out to ≡ plain
+  concl_plain kind form e f (inl h) = concl_any (λ z. h.1 (f ∙ z))
+  concl_plain kind form e f (inr h) = concl_other (λ z. h (e ∙ z))
 
   pub concl_inner_lem : get_or s at 0 ≡ 1 → get_or s (at + 2) 0 ≡ 0 → put_concl inner s at out to ≡ inner (at + 3) (copy_three s at out to) (to + 3)
   concl_inner_lem h k = split true true (eq-eqb (get_or s at 0) 1 h) (eq-eqb (get_or s (at + 2) 0) 0 k)

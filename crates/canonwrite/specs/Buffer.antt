@@ -1,10 +1,8 @@
 -- The same into a buffer, step by step as code does it. `out` is the buffer, `to` the place in it up to which it is written;
 -- what stands behind is of no account.
-use Rattle.std.specs.Prelude.{ℕ, zero, suc, ◌+◌, ◌-◌, min, cond, ◌&&◌, List, [], ◌∷◌, ◌++◌, length, get_or, set, take, drop, eqb}
+use Rattle.std.specs.Prelude.{ℕ, zero, suc, ◌+◌, ◌-◌, min, cond, ◌&&◌, Option, Some, None, List, [], ◌∷◌, ◌++◌, length, get_or, set, take, drop, eqb}
 use Rattle.sorts.specs.Numbers.{conditions}
 use Rattle.segments.specs.Segments.{part, turn, seat}
-use Rattle.segments.specs.declared.Seat.{Seat}
-use Rattle.segments.specs.declared.Seat.TheVariants.{There, Before}
 
 pub record Spot : Type 0 where
   pub out : List ℕ
@@ -27,9 +25,9 @@ put_concl inner s at out to =
     (record { out = copy_three s at out to; at = at + 3; to = to + 3 })
 
 -- A segment was written behind others, whose end was `to`: "repeats are dropped", or it is turned into its place.
-abbrev pub seated : ℕ → List ℕ → Spot → Seat → Kept
-seated to lens one There = record { out = one.out; at = one.at; to = to; lens = lens }
-seated to lens one (Before k p) = record { out = turn one.out p to one.to; at = one.at; to = one.to; lens = take k lens ++ ((one.to - to) ∷ drop k lens) }
+abbrev pub seated : ℕ → List ℕ → Spot → Option (ℕ × ℕ) → Kept
+seated to lens one None = record { out = one.out; at = one.at; to = to; lens = lens }
+seated to lens one (Some (k, p)) = record { out = turn one.out p to one.to; at = one.at; to = one.to; lens = take k lens ++ ((one.to - to) ∷ drop k lens) }
 
 unfoldable pub put_in : ℕ → ℕ → List ℕ → Spot → Kept
 put_in b to lens one = seated to lens one (seat (part to one.to one.out) one.out 0 b lens)

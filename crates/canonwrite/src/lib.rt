@@ -2,14 +2,13 @@
 // ascend, and a new one, written behind them, is left out or turned into its place.
 #![tactic(auto)]
 
-ghost use Rattle.std.specs.Prelude.{◌≡◌, ◌+◌, ◌≤◌, ◌<◌, min, length, take};
+ghost use Rattle.std.specs.Prelude.{◌≡◌, ◌+◌, ◌≤◌, ◌<◌, length, take};
 ghost use Rattle.sorts.specs.Numbers.{conditions, depths};
 ghost use Rattle.canonwrite.specs.Buffer.{copy_three, put_in, put_concl, put_conds, put_grant};
 ghost use Rattle.canon.specs.Most.{most, most_grant, most_concl};
 ghost use Rattle.canonwrite.specs.Inner.Writing.{spot_of, kept_of, SegmentsFit, room};
 ghost use Rattle.canonwrite.specs.Answers.{Answers};
 
-use segments::Seat;
 use sorts::Row;
 
 // How many conditions a grant may have.
@@ -20,14 +19,6 @@ pub const MOST_GRANT: usize = 3432;
 
 pub const MOST_CONCL: usize = 3 + MOST_GRANT;
 
-// What writing a form answers: the buffer is too short for some form; or the place after the bytes read and the place after
-// those written, from the buffer's first byte on.
-#[derive(Clone, Copy)]
-pub enum Formed {
-    Short,
-    Wrote(usize, usize),
-}
-
 // The place after the bytes read, and the place after those written.
 #[derive(Clone, Copy)]
 pub struct Place {
@@ -35,7 +26,8 @@ pub struct Place {
     pub to: usize,
 }
 
-// The same with the lengths of the segments, `count` of them.
+// The same with the lengths of the segments, of which the first `count` are meant: a list of a fixed length, since no memory is
+// taken.
 #[derive(Clone, Copy)]
 pub struct Segments {
     pub at: usize,
@@ -49,12 +41,9 @@ fn copy_three(s: &[u8], at: usize, out: &mut [u8], to: usize)
     requires { (at + 3 ≤ 65536) × (to + 3 ≤ length out.old) }
     ensures { out.new ≡ copy_three s.now at out.old to }
 {
-    let a = segments::byte_at(s, at);
-    segments::put(out, to, a);
-    let b = segments::byte_at(s, at + 1);
-    segments::put(out, to + 1, b);
-    let c = segments::byte_at(s, at + 2);
-    segments::put(out, to + 2, c);
+    segments::put(out, to, segments::byte_at(s, at));
+    segments::put(out, to + 1, segments::byte_at(s, at + 1));
+    segments::put(out, to + 2, segments::byte_at(s, at + 2));
 }
 
 // The segment written behind those from b on is left out, or turned into its place.
@@ -63,36 +52,18 @@ fn put_in(b: usize, was: Segments, one: Place, out: &mut [u8]) -> Segments
     ensures done { kept_of out.new result ≡ put_in b was.to (take was.count was.lens) (spot_of out.old one) }
     ensures fits { SegmentsFit b result × (result.count ≤ was.count + 1) × (was.to ≤ result.to) × (result.to ≤ one.to) × (result.at ≡ one.at) }
 {
-    let at = one.at;
-    let e = one.to;
-    let to = was.to;
-    let count = was.count;
-    let lens = was.lens;
-    match segments::seek(out, b, count, lens, to, e) {
-        Seat::There => Segments {
-            at,
-            to,
-            count,
-            lens,
-        },
-        Seat::Before(k, p) => {
-            segments::turn(out, p, to, e);
-            let more = segments::insert(lens, k, e - to);
+    match segments::seek(out, b, was.count, was.lens, was.to, one.to) {
+        None => Segments { at: one.at, ..was },
+        Some((k, p)) => {
+            segments::turn(out, p, was.to, one.to);
             Segments {
-                at,
-                to: e,
-                count: count + 1,
-                lens: more,
+                at: one.at,
+                to: one.to,
+                count: was.count + 1,
+                lens: segments::insert(was.lens, k, one.to - was.to),
             }
         }
     }
-}
-
-// As many conditions as there may be at most.
-fn few(n: u8) -> u8
-    ensures { result ≡ min n conditions }
-{
-    if n <= CONDITIONS { n } else { CONDITIONS }
 }
 
 // The form of the conclusion at a place.
@@ -105,23 +76,18 @@ fn put_concl(s: &[u8], at: usize, below: u8, out: &mut [u8], to: usize) -> Place
     copy_three(s, at, out, to);
     let kind = segments::byte_at(s, at);
     let form = segments::byte_at(s, at + 2);
-    if kind != 1 {
-        return Place {
-            at: at + 3,
-            to: to + 3,
-        };
+    if kind == 1 && form == 0 {
+        return put_grant(s, at + 3, below, out, to + 3);
     }
-    if form != 0 {
-        return Place {
-            at: at + 3,
-            to: to + 3,
-        };
+    Place {
+        at: at + 3,
+        to: to + 3,
     }
-    put_grant(s, at + 3, below, out, to + 3)
 }
 
 // `k` more conditions, put among the segments from b on.
 #[cycle(put_concl_put_conds_put_grant)]
+#[tactic(auto, using(crate::proofs::Steps::room_none, crate::proofs::Steps::room_step))]
 fn put_conds(s: &[u8], below: u8, b: usize, k: u8, was: Segments, out: &mut [u8]) -> Segments
     requires { (was.count + k ≤ conditions) × SegmentsFit b was × (was.at + room k (most below) ≤ 65536) × (was.to + room k (most below) ≤ length out.old) }
     ensures done { kept_of out.new result ≡ put_conds (put_grant below s.now) s.now b k (kept_of out.old was) }
@@ -130,17 +96,15 @@ fn put_conds(s: &[u8], below: u8, b: usize, k: u8, was: Segments, out: &mut [u8]
     if k == 0 {
         return was;
     }
-    let at = was.at;
-    let to = was.to;
-    let p = segments::byte_at(s, at);
-    segments::put(out, to, p);
-    let one = put_concl(s, at + 1, below, out, to + 1);
+    segments::put(out, was.to, segments::byte_at(s, was.at));
+    let one = put_concl(s, was.at + 1, below, out, was.to + 1);
     let next = put_in(b, was, one, out);
     put_conds(s, below, b, k - 1, next, out)
 }
 
 // The form of the grant at a place; `left` grants may stand one inside the other, this one counted.
 #[cycle(put_concl_put_conds_put_grant)]
+#[tactic(auto, using(crate::proofs::Steps::most_step, crate::proofs::Steps::room_most))]
 fn put_grant(s: &[u8], at: usize, left: u8, out: &mut [u8], to: usize) -> Place
     requires { (at + most left ≤ 65536) × (to + most left ≤ length out.old) }
     ensures done { spot_of out.new result ≡ put_grant left s.now at out.old to }
@@ -151,8 +115,7 @@ fn put_grant(s: &[u8], at: usize, left: u8, out: &mut [u8], to: usize) -> Place
     }
     let below = left - 1;
     copy_three(s, at, out, to);
-    let n = segments::byte_at(s, at + 2);
-    let k = few(n);
+    let k = segments::byte_at(s, at + 2).min(CONDITIONS);
     let none = Segments {
         at: at + 3,
         to: to + 3,
@@ -160,31 +123,27 @@ fn put_grant(s: &[u8], at: usize, left: u8, out: &mut [u8], to: usize) -> Place
         lens: [0; Row::CONDITIONS],
     };
     let cs = put_conds(s, below, to + 3, k, none, out);
-    let count = cs.count as u8;
-    let next = cs.at;
-    let end = cs.to;
-    segments::put(out, to + 2, count);
-    put_concl(s, next, below, out, end)
+    segments::put(out, to + 2, cs.count as u8);
+    put_concl(s, cs.at, below, out, cs.to)
 }
 
-// The form of the grant that the bytes open with, written into a buffer that has room for the longest one.
-pub fn write_grant(s: &[u8], out: &mut [u8]) -> Formed
+// The form of the grant that the bytes open with, written into a buffer that has room for the longest one; none where it has not.
+pub fn write_grant(s: &[u8], out: &mut [u8]) -> Option<Place>
     ensures { Answers most_grant (put_grant depths s.now 0 out.old 0) out.old out.new result }
 {
     if out.len() < MOST_GRANT {
-        return Formed::Short;
+        return None;
     }
-    let p = put_grant(s, 0, Row::DEPTHS, out, 0);
-    Formed::Wrote(p.at, p.to)
+    Some(put_grant(s, 0, Row::DEPTHS, out, 0))
 }
 
 // The same of the conclusion that the bytes open with.
-pub fn write_concl(s: &[u8], out: &mut [u8]) -> Formed
+// Two functions of three lines: one for both would take the step as a closure.
+pub fn write_concl(s: &[u8], out: &mut [u8]) -> Option<Place>
     ensures { Answers most_concl (put_concl (put_grant depths s.now) s.now 0 out.old 0) out.old out.new result }
 {
     if out.len() < MOST_CONCL {
-        return Formed::Short;
+        return None;
     }
-    let p = put_concl(s, 0, Row::DEPTHS, out, 0);
-    Formed::Wrote(p.at, p.to)
+    Some(put_concl(s, 0, Row::DEPTHS, out, 0))
 }

@@ -1,15 +1,15 @@
 -- The depths that are worked out row by row are the depths of the rows written out.
-use Prim.Native.Nat.{ℕ, zero, suc, ◌+◌, ◌<◌, ◌≤◌}
+use Prim.Native.Nat.{ℕ, zero, suc, ◌+◌, ◌<◌, ◌≤◌, max}
 use mathlib.Core.List.{List, [], ◌∷◌, ◌++◌}
-use mathlib.Core.Bool.{Bool, true, false}
-use mathlib.Core.Path.{◌≡◌, refl, sym, ap, ◌∙◌}
+use mathlib.Core.Bool.{Bool, true, false, cond}
+use mathlib.Core.Path.{◌≡◌, refl, sym, ap, ap₂, ◌∙◌}
 use mathlib.Core.Logic.{inl, inr}
 use native.Mathlib.Omega.{arith}
 use native.Mathlib.Nat.{not-suc-le-zero}
 use lib.ListN.{length, get_or, set, length-set, get_or-append, get_or-eq_default}
 use lib.Seq.{get_or-append_seam, get_or-set_same, get_or-set_other}
-use lib.Dec.{ltb}
-use borrow.Author.Tests.{ltb-true, ltb-false}
+use lib.Dec.{ltb, leb}
+use borrow.Author.Tests.{leb-true, leb-false, ltb-true, ltb-false}
 use Rattle.sorts.specs.Numbers as numbers
 use Rattle.sorts.specs.declared.Res.{Res}
 use Rattle.sorts.specs.declared.Res.TheVariants.{Issue, Run, Export}
@@ -26,6 +26,14 @@ use Rattle.rows.proofs.Shown.{out_length}
 use Rattle.depths.specs.Inner.Depths.{depth_of_res, depth_of_concl, depth_of_conds, held_depth}
 use Rattle.rows.proofs.Deciding.{each_more}
 
+-- the larger of two numbers, as the form of a table spells it
+larger_max : (a b : ℕ) → larger a b ≡ max a b
+larger_max a b = go (leb a b) refl
+  where
+    go : (r : Bool) → leb a b ≡ r → cond r b a ≡ max a b
+    go true e = let l = leb-true a b e in omega arith
+    go false e = let l = leb-false a b e in omega arith
+
 -- blank conditions hold no grant, so that those past the count do not count
 
 module _ (depths : List ℕ) (cs : List Cond) where
@@ -38,7 +46,7 @@ module _ (depths : List ℕ) (cs : List Cond) where
   unfolding depth_of_conds
   conds_cut a zero m l b = conds_blank a m (λ j h. b j (omega arith))
   conds_cut a (suc n) zero l b = absurd (not-suc-le-zero l)
-  conds_cut a (suc n) (suc m) l b = ap (larger (depth_of_concl depths (get_or cs a blank_cond).what)) (conds_cut (a + 1) n m (omega arith) (λ j h. b j (omega arith)))
+  conds_cut a (suc n) (suc m) l b = ap (max (depth_of_concl depths (get_or cs a blank_cond).what)) (conds_cut (a + 1) n m (omega arith) (λ j h. b j (omega arith)))
 
 -- where the depths of the grants with numbers below i are right, so is that of a row that holds no others
 
@@ -59,14 +67,14 @@ module _ (depths : List ℕ) (N : List Grant) (i : ℕ) (small : i ≤ numbers.g
   unfolding depth_of_conds depth write_conds
   conds_right cs a zero b = refl
   conds_right cs a (suc k) b =
-      λ z. larger (concl_right (get_or cs a blank_cond).what (b a (omega arith)) z) (conds_right cs (a + 1) k (λ j l. b j (omega arith)) z)
+      ap₂ max (concl_right (get_or cs a blank_cond).what (b a (omega arith))) (conds_right cs (a + 1) k (λ j l. b j (omega arith))) ∙ sym (larger_max _ _)
 
   row_right : (x : Row) → x.count ≤ numbers.conditions → ((j : ℕ) → x.count ≤ j → get_or x.conds j blank_cond ≡ blank_cond) → RowBelow i x → suc (held_depth depths x) ≡ depth (write_row N x)
   unfolding depth write_row
   row_right x n u b =
       let e : depth_of_conds depths x.conds 0 numbers.conditions ≡ depth_conds (write_conds N x.conds 0 x.count) =
       conds_cut depths x.conds 0 x.count numbers.conditions n (λ j l. u j (omega arith)) ∙ conds_right x.conds 0 x.count (λ j l. b.used j (omega arith)) in
-      λ z. suc (larger (e z) (concl_right x.head b.head z))
+      ap suc (ap₂ max e (concl_right x.head b.head) ∙ sym (larger_max _ _))
 
 -- the depth of row i
 abbrev depth_at : List Row → ℕ → ℕ → ℕ

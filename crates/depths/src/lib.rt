@@ -5,19 +5,12 @@ ghost use Rattle.std.specs.Prelude.{◌≡◌, ℕ, ◌≤◌, ◌<◌, get_or};
 ghost use Rattle.sorts.specs.Numbers.{grants, conditions, depths};
 ghost use Rattle.sorts.specs.Blank.{no_row};
 ghost use Rattle.sorts.specs.Decides.{Decides};
-ghost use Rattle.rows.specs.Form.{larger, depth, rows_out, no_grant};
+ghost use Rattle.rows.specs.Form.{depth, rows_out, no_grant};
 ghost use Rattle.sorts.specs.RowForm.{RowForm};
 ghost use Rattle.depths.specs.Inner.Depths.{depth_of_res, depth_of_concl, depth_of_conds, held_depth};
 
 use rows::Table;
 use sorts::{Concl, Cond, Res, Row};
-
-// The larger of two depths.
-fn max(a: u8, b: u8) -> u8
-    ensures { result ≡ larger a b }
-{
-    if a <= b { b } else { a }
-}
 
 // The depth of the grant that a resource is, 0 where it is none; each grant's depth stands at its number.
 fn res_depth(depths: [u8; Table::ROWS], x: Res) -> u8
@@ -47,8 +40,7 @@ fn concl_depth(depths: [u8; Table::ROWS], e: Concl) -> u8
 fn cond_depth(depths: [u8; Table::ROWS], c: Cond) -> u8
     ensures { result ≡ depth_of_concl depths c.what }
 {
-    let e = c.what;
-    concl_depth(depths, e)
+    concl_depth(depths, c.what)
 }
 
 // The depth of the deepest grant that a row's four places for conditions hold, 0 where they hold none.
@@ -56,18 +48,17 @@ fn conds_depth(depths: [u8; Table::ROWS], x: Row) -> u8
     ensures { result ≡ depth_of_conds depths x.conds 0 conditions }
 {
     let c = x.conds;
-    let last = max(cond_depth(depths, c[3]), 0);
-    let third = max(cond_depth(depths, c[2]), last);
-    let second = max(cond_depth(depths, c[1]), third);
-    max(cond_depth(depths, c[0]), second)
+    let last = cond_depth(depths, c[3]);
+    let third = cond_depth(depths, c[2]).max(last);
+    let second = cond_depth(depths, c[1]).max(third);
+    cond_depth(depths, c[0]).max(second)
 }
 
 // The depth of the deepest grant that a row holds, 0 where it holds none.
 fn held_depth(depths: [u8; Table::ROWS], x: Row) -> u8
     ensures { result ≡ held_depth depths x }
 {
-    let e = x.head;
-    max(conds_depth(depths, x), concl_depth(depths, e))
+    conds_depth(depths, x).max(concl_depth(depths, x.head))
 }
 
 // Whether the rows below the count, each in form by itself, have depth at most 4.
@@ -75,17 +66,14 @@ pub fn depths_ok(t: Table) -> bool
     requires { (t.count ≤ grants) × ((i : ℕ) → i < t.count → RowForm i (get_or t.rows i no_row)) }
     ensures { Decides result ((i : ℕ) → i < t.count → depth (get_or (rows_out t.rows t.count) i no_grant) ≤ depths) }
 {
-    let n = t.count;
     let mut depths = [0u8; Table::ROWS];
-    let mut i = 0;
-    while i < n {
+    for i in 0..t.count {
         let x = t.rows[i];
         let d = held_depth(depths, x);
         if Row::DEPTHS <= d {
             return false;
         }
         depths[i] = d + 1;
-        i += 1;
     }
     true
 }

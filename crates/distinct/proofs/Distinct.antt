@@ -1,29 +1,32 @@
--- The test of sameness decides whether rows are equal; rows none of which is one before it.
-use Prim.Native.Nat.{ℕ, ◌<◌}
-use mathlib.Core.Bool.{Bool, true, false}
-use mathlib.Core.Path.{◌≡◌, refl, sym, ap, ◌∙◌}
+-- Whether a row is none of those before it, by the search for it among those.
+use Prim.Native.Nat.{ℕ, ◌<◌, ◌≤◌}
+use mathlib.Core.Bool.{Bool, true, false, not}
+use mathlib.Core.Path.{◌≡◌, refl, sym, ◌∙◌}
 use mathlib.Core.List.{List}
 use native.Mathlib.Omega.{arith}
-use lib.ListN.{length, get_or}
-use lib.Dec.{ltb}
-use borrow.Author.Tests.{ltb-true, ltb-false}
-use Rattle.sorts.specs.Numbers.{conditions}
+use lib.ListN.{length, get_or, take}
+use lib.Seq.{length-take-le}
+use Rattle.std.specs.Bool.{Decides as Test}
+use Rattle.std.specs.List.{HoldsAt, IsAnyAnswer}
+use Rattle.std.proofs.lemmas.Bool.{false≢true}
+use Rattle.std.proofs.lemmas.List.{get_or-take, get_or_default}
+use Rattle.std.proofs.lemmas.List.Elements.{contains_decides}
 use Rattle.sorts.specs.declared.Row.{Row}
 use Rattle.sorts.specs.Blank.{no_row}
 use Rattle.sorts.specs.Decides.{Decides}
-use Rattle.rows.specs.Inner.Lookup.{same_row}
-use Rattle.rows.proofs.Deciding.{test_decides}
-use Rattle.rows.proofs.RowSame.{row_eq, row_refl}
+use Rattle.sorts.specs.contracts.RowPartialEq.TheImpl as row
+use Rattle.sorts.proofs.Same.{row_same}
 
-pub rows_decide : (a b : Row) → length a.conds ≡ conditions → length b.conds ≡ conditions → Decides (same_row a b) (a ≡ b)
-rows_decide a b la lb = test_decides (same_row a b) (row_eq a b la lb) (λ e. ap (λ (y : Row). same_row y b) e ∙ row_refl b)
-
--- rows none of which is one before it are distinct
-pub all_distinct : (rows : List Row) (n : ℕ) → ((i : ℕ) → i < n → (j : ℕ) → j < i → get_or rows j no_row ≡ get_or rows i no_row → ⊥) →
-    (i j : ℕ) → i < n → j < n → get_or rows i no_row ≡ get_or rows j no_row → i ≡ j
-all_distinct rows n f i j hi hj e = go (ltb i j) refl (ltb j i) refl
+pub none_before : (rows : List Row) (i : ℕ) (x : Row) (r : Bool) → i ≤ length rows → IsAnyAnswer (λ y t. row.ghosts.eq y x ≡ t) (take i rows) r →
+    Decides (not r) ((j : ℕ) → j < i → get_or rows j no_row ≡ x → ⊥)
+none_before rows i x r l h = go r (contains_decides row.ghosts.eq row_same (take i rows) x r h)
   where
-    go : (a : Bool) → ltb i j ≡ a → (b : Bool) → ltb j i ≡ b → i ≡ j
-    go true p b q = absurd (f j hj i (ltb-true i j p) e)
-    go false p true q = absurd (f i hi j (ltb-true j i q) (sym e))
-    go false p false q = let l = ltb-false i j p in let m = ltb-false j i q in omega arith
+    long : length (take i rows) ≡ i
+    long = length-take-le i rows l
+
+    Among : Type 0
+    Among = (k : ℕ) × (k < length (take i rows)) × HoldsAt (λ y. y ≡ x) (take i rows) k
+
+    go : (b : Bool) → Test b Among → Decides (not b) ((j : ℕ) → j < i → get_or rows j no_row ≡ x → ⊥)
+    go true d = λ f. let w = d.0 refl in f w.0 (omega (arith, w.1, long)) (sym (get_or-take i rows w.0 no_row (omega (arith, w.1, long))) ∙ w.2 no_row)
+    go false d = λ j k e. false≢true (d.1 (j, omega (arith, long), λ z. get_or_default (take i rows) j z no_row (omega (arith, long)) ∙ get_or-take i rows j no_row k ∙ e))

@@ -13,28 +13,13 @@ use sorts::{Concl, Cond, Res, Row};
 // What the keys of rows are written in.
 const BASE: u64 = 509;
 
-// Whether two rows are the same.
-fn equal_rows(a: Row, b: Row) -> bool
-    ensures { Decides result (a ≡ b) }
-{
-    rows::same_row(a, b)
-}
-
 // Whether row i is none of the rows before it.
 fn new_row(t: Table, i: usize) -> bool
     requires { i < grants }
     ensures { Decides result ((j : ℕ) → j < i → get_or t.rows j no_row ≡ get_or t.rows i no_row → ⊥) }
 {
     let x = t.rows[i];
-    let mut k = 0;
-    while k < i {
-        let y = t.rows[k];
-        if equal_rows(y, x) {
-            return false;
-        }
-        k += 1;
-    }
-    true
+    !t.rows[..i].contains(&x)
 }
 
 // A number made of a resource.
@@ -62,9 +47,7 @@ fn concl_key(e: Concl) -> u64
 fn cond_key(c: Cond) -> u64
     ensures { (result ≡ cond_key c) × (result < 134217728) }
 {
-    let p = c.who;
-    let e = c.what;
-    256 * concl_key(e) + p.0 as u64
+    256 * concl_key(c.what) + c.who.0 as u64
 }
 
 // A number made of a row.
@@ -72,18 +55,17 @@ fn row_key(x: Row) -> u64
     ensures { result ≡ row_key x }
 {
     let c = x.conds;
-    let e = x.head;
     let a = BASE * cond_key(c[0]) + cond_key(c[1]);
     let b = BASE * a + cond_key(c[2]);
     let d = BASE * b + cond_key(c[3]);
-    BASE * d + concl_key(e)
+    BASE * d + concl_key(x.head)
 }
 
 // 1 where two keys are the same.
 fn same_key(a: u64, b: u64) -> u64
     ensures { (result ≡ 0 → a ≡ b → ⊥) × (result ≤ 1) }
 {
-    if a == b { 1 } else { 0 }
+    (a == b) as u64
 }
 
 // Whether k is none of the first n keys.
@@ -91,11 +73,10 @@ fn new_key(keys: &[u64], n: usize, k: u64) -> bool
     requires { n ≤ length keys.now }
     ensures { result ≡ true → (j : ℕ) → j < n → get_or keys.now j 0 ≡ k → ⊥ }
 {
+    // No early exit, so that several keys are compared at once.
     let mut same: u64 = 0;
-    let mut j: usize = 0;
-    while j < n {
+    for j in 0..n {
         same += same_key(keys[j], k);
-        j += 1;
     }
     same == 0
 }
@@ -105,10 +86,7 @@ fn differs(t: Table, keys: &[u64], i: usize, k: u64) -> bool
     requires { (i < grants) × (length keys.now ≡ grants) × ((j : ℕ) → j < i → get_or keys.now j 0 ≡ row_key (get_or t.rows j no_row)) × (k ≡ row_key (get_or t.rows i no_row)) }
     ensures { Decides result ((j : ℕ) → j < i → get_or t.rows j no_row ≡ get_or t.rows i no_row → ⊥) }
 {
-    if new_key(keys, i, k) {
-        return true;
-    }
-    new_row(t, i)
+    new_key(keys, i, k) || new_row(t, i)
 }
 
 // Whether the rows below the count are distinct.
@@ -116,17 +94,14 @@ pub fn distinct_rows(t: Table) -> bool
     requires { t.count ≤ grants }
     ensures { Decides result ((i j : ℕ) → i < t.count → j < t.count → get_or t.rows i no_row ≡ get_or t.rows j no_row → i ≡ j) }
 {
-    let n = t.count;
     let mut keys = [0u64; Table::ROWS];
-    let mut i: usize = 0;
-    while i < n {
+    for i in 0..t.count {
         let x = t.rows[i];
         let k = row_key(x);
         if !differs(t, &keys, i, k) {
             return false;
         }
         keys[i] = k;
-        i += 1;
     }
     true
 }

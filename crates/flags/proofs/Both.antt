@@ -1,63 +1,43 @@
 -- The flags with provisional licences taken as firm, flag by flag.
-use Prim.Native.Nat.{ℕ, zero, suc, ◌+◌, ◌-◌, ◌*◌, ◌/◌, ◌%◌, ◌≤◌, ◌<◌}
+use Prim.Native.Nat.{ℕ, ◌+◌, ◌-◌, ◌*◌, ◌/◌, ◌%◌, ◌≤◌, ◌<◌, max}
 use mathlib.Core.Path.{◌≡◌, refl, sym, ap, subst, ◌∙◌}
 use mathlib.Core.Bool.{Bool, true, false, cond}
-use mathlib.Core.List.{List, [], ◌∷◌, ◌++◌}
+use mathlib.Core.List.{List}
 use mathlib.Core.Logic.{◌↔◌, ◌⊎◌, inl, inr, ⊎_elim}
 use native.Mathlib.Omega.{arith}
 use native.Mathlib.Decide.{ℕ_discrete, dec_lt}
 use lib.Dec.{eqb, leb}
-use lib.ListN.{length, get_or, set, length-append, get_or-append, get_or-eq_default}
-use lib.Seq.{get_or_at, get_or-set_same, get_or-set_other, ext_get_or}
-use borrow.Author.Tests.{eq-eqb, ne_eqb, le-leb, lt-leb, leb-true, leb-false}
+use lib.ListN.{length, get_or, get_or-eq_default}
+use lib.Seq.{ext_get_or}
+use borrow.Author.Tests.{eq-eqb, ne_eqb, le-leb, lt-leb}
 use Rattle.sorts.specs.declared.Prin.{Prin}
 use Rattle.sorts.specs.declared.Status.{Status}
 use Rattle.sorts.specs.declared.Status.TheVariants.{Trusted, Issued, Provisional}
 use Rattle.sorts.specs.Numbers.{speakers, grants}
 use Rattle.sorts.specs.Flags.{FirmRange, firm_flags, row_flags, all_flags, flag_place, flag}
 use Rattle.sorts.proofs.Flags.{place_fits}
-use Rattle.flags.specs.Both.{larger, both_at, entries, both_flags}
+use Rattle.std.proofs.lemmas.List.FromFn.{length-map-range_with_len, get_or-map-range_with_len}
+use Rattle.flags.specs.Both.{both_at, both_flags}
 
 -- The larger of two.
 
-larger_cases : (P : ℕ → Type 0) (a b : ℕ) → (a ≤ b → P b) → (b ≤ a → P a) → P (larger a b)
-larger_cases P a b f g = go (leb a b) refl
+larger_cases : (P : ℕ → Type 0) (a b : ℕ) → (a ≤ b → P b) → (b ≤ a → P a) → P (max a b)
+larger_cases P a b f g = go (dec_lt a b)
   where
-    go : (t : Bool) → leb a b ≡ t → P (cond t b a)
-    go true e = f (leb-true a b e)
-    go false e = let l = leb-false a b e in g (omega arith)
-
--- A list by its entries.
-
-entries_length : (n : ℕ) (f : ℕ → ℕ) → length (entries n f) ≡ n
-unfolding entries
-entries_length zero f = refl
-entries_length (suc n) f = length-append (entries n f) (f n ∷ []) ∙ omega (arith, entries_length n f)
-
-entries_at : (n : ℕ) (f : ℕ → ℕ) (i : ℕ) → i < n → get_or (entries n f) i 0 ≡ f i
-unfolding entries
-entries_at zero f i l = absurd (omega (arith, l))
-entries_at (suc n) f i l = go (ℕ_discrete i n) (entries_at n f i)
-  where
-    go : Dec (i ≡ n) → (i < n → get_or (entries n f) i 0 ≡ f i) → get_or (entries n f ++ (f n ∷ [])) i 0 ≡ f i
-    go (yes e) h = get_or_at (entries n f) (f n) [] 0 i (entries_length n f ∙ sym e) ∙ ap f (sym e)
-    go (no d) h = get_or-append (entries n f) (f n ∷ []) 0 i (omega (arith, entries_length n f)) ∙ h (omega arith)
-
--- a list that has the entries is that list
-entries_all : (n : ℕ) (f : ℕ → ℕ) (l : List ℕ) → length l ≡ n → ((i : ℕ) → i < n → get_or l i 0 ≡ f i) → l ≡ entries n f
-entries_all n f l e h =
-    ext_get_or 0 l (entries n f) (e ∙ sym (entries_length n f)) (λ i k. let j : i < n = omega (arith, k, e) in h i j ∙ sym (entries_at n f i j))
+    go : Dec (a < b) → P (max a b)
+    go (yes l) = let e : b ≡ max a b = omega arith in subst P e (f (omega arith))
+    go (no d) = let e : a ≡ max a b = omega arith in subst P e (g (omega arith))
 
 -- The flags.
 
 module _ (flags : List ℕ) where
   pub both_length : length (both_flags flags) ≡ all_flags
   unfolding both_flags
-  both_length = entries_length all_flags (both_at flags)
+  both_length = length-map-range_with_len (both_at flags) 0 all_flags
 
   both_at_lem : (i : ℕ) → i < all_flags → get_or (both_flags flags) i 0 ≡ both_at flags i
   unfolding both_flags
-  both_at_lem i l = entries_at all_flags (both_at flags) i l
+  both_at_lem i l = get_or-map-range_with_len (both_at flags) 0 all_flags i i 0 l (omega arith)
 
   -- trust, and what follows the firm flags
   pub other_at : (i : ℕ) → (i % row_flags ≡ 0) ⊎ (firm_flags ≤ i % row_flags) → both_at flags i ≡ get_or flags i 0
@@ -65,7 +45,7 @@ module _ (flags : List ℕ) where
   other_at i (inr l) = rw (ne_eqb (i % row_flags) 0 (λ e. absurd (omega arith)), le-leb firm_flags (i % row_flags) l)
 
   -- the flags of issuers
-  pub issuer_at : (i : ℕ) → 0 < i % row_flags → i % row_flags < firm_flags → both_at flags i ≡ larger (get_or flags i 0) (get_or flags (i + speakers) 0)
+  pub issuer_at : (i : ℕ) → 0 < i % row_flags → i % row_flags < firm_flags → both_at flags i ≡ max (get_or flags i 0) (get_or flags (i + speakers) 0)
   issuer_at i k l = rw (ne_eqb (i % row_flags) 0 (λ e. absurd (omega arith)), lt-leb firm_flags (i % row_flags) l)
 
   module _ (g : ℕ) (l : g < grants) where
@@ -77,11 +57,11 @@ module _ (flags : List ℕ) where
       both_provisional = both_at_lem (flag_place (Provisional p) g) (place_fits (Provisional p) g k l) ∙ other_at (flag_place (Provisional p) g) (inr (omega arith))
 
       -- issued by p is the larger of the two flags of p
-      pub both_issued : flag (both_flags flags) (Issued p) g ≡ larger (flag flags (Issued p) g) (flag flags (Provisional p) g)
+      pub both_issued : flag (both_flags flags) (Issued p) g ≡ max (flag flags (Issued p) g) (flag flags (Provisional p) g)
       both_issued =
           let e : flag_place (Issued p) g + speakers ≡ flag_place (Provisional p) g = omega arith in
           both_at_lem (flag_place (Issued p) g) (place_fits (Issued p) g k l) ∙ issuer_at (flag_place (Issued p) g) (omega arith) (omega arith)
-          ∙ ap (λ (i : ℕ). larger (flag flags (Issued p) g) (get_or flags i 0)) e
+          ∙ ap (λ (i : ℕ). max (flag flags (Issued p) g) (get_or flags i 0)) e
 
       -- it is set exactly where one of the two is
       pub both_set : (flag (both_flags flags) (Issued p) g ≡ 0 → ⊥) ↔ ((flag flags (Issued p) g ≡ 0 → ⊥) ⊎ (flag flags (Provisional p) g ≡ 0 → ⊥))
@@ -92,13 +72,13 @@ module _ (flags : List ℕ) where
             ⊎_elim (λ n. n (left z)) (λ n. n (right z)) w,
       )
         where
-          left : larger (flag flags (Issued p) g) (flag flags (Provisional p) g) ≡ 0 → flag flags (Issued p) g ≡ 0
+          left : max (flag flags (Issued p) g) (flag flags (Provisional p) g) ≡ 0 → flag flags (Issued p) g ≡ 0
           left = larger_cases (λ r. r ≡ 0 → flag flags (Issued p) g ≡ 0) _ _ (λ m e. omega arith) (λ m e. e)
 
-          right : larger (flag flags (Issued p) g) (flag flags (Provisional p) g) ≡ 0 → flag flags (Provisional p) g ≡ 0
+          right : max (flag flags (Issued p) g) (flag flags (Provisional p) g) ≡ 0 → flag flags (Provisional p) g ≡ 0
           right = larger_cases (λ r. r ≡ 0 → flag flags (Provisional p) g ≡ 0) _ _ (λ m e. e) (λ m e. omega arith)
 
-          none : flag flags (Issued p) g ≡ 0 → flag flags (Provisional p) g ≡ 0 → larger (flag flags (Issued p) g) (flag flags (Provisional p) g) ≡ 0
+          none : flag flags (Issued p) g ≡ 0 → flag flags (Provisional p) g ≡ 0 → max (flag flags (Issued p) g) (flag flags (Provisional p) g) ≡ 0
           none e f = larger_cases (λ r. r ≡ 0) _ _ (λ m. f) (λ m. e)
 
           to : Dec (flag flags (Issued p) g ≡ 0) → (flag (both_flags flags) (Issued p) g ≡ 0 → ⊥) → (flag flags (Issued p) g ≡ 0 → ⊥) ⊎ (flag flags (Provisional p) g ≡ 0 → ⊥)
@@ -119,7 +99,7 @@ module _ (flags : List ℕ) where
         at : both_at flags i ≤ 1
         at = larger_at (eqb (i % row_flags) 0) (leb firm_flags (i % row_flags))
           where
-            larger_at : (a b : Bool) → cond a (get_or flags i 0) (cond b (get_or flags i 0) (larger (get_or flags i 0) (get_or flags (i + speakers) 0))) ≤ 1
+            larger_at : (a b : Bool) → cond a (get_or flags i 0) (cond b (get_or flags i 0) (max (get_or flags i 0) (get_or flags (i + speakers) 0))) ≤ 1
             larger_at true b = bits i
             larger_at false true = bits i
             larger_at false false = larger_cases (λ r. r ≤ 1) (get_or flags i 0) (get_or flags (i + speakers) 0) (λ _. bits (i + speakers)) (λ _. bits i)
@@ -151,7 +131,7 @@ module _ (flags : List ℕ) where
   pub both_zero : (n : ℕ) → ((i : ℕ) → row_flags * n ≤ i → get_or flags i 0 ≡ 0) → (i : ℕ) → row_flags * n ≤ i → get_or (both_flags flags) i 0 ≡ 0
   both_zero n zero_from i l = go (dec_lt i all_flags)
     where
-      cases : (a b : Bool) → cond a (get_or flags i 0) (cond b (get_or flags i 0) (larger (get_or flags i 0) (get_or flags (i + speakers) 0))) ≡ 0
+      cases : (a b : Bool) → cond a (get_or flags i 0) (cond b (get_or flags i 0) (max (get_or flags i 0) (get_or flags (i + speakers) 0))) ≡ 0
       cases true b = zero_from i l
       cases false true = zero_from i l
       cases false false = larger_cases (λ r. r ≡ 0) (get_or flags i 0) (get_or flags (i + speakers) 0) (λ _. zero_from (i + speakers) (omega arith)) (λ _. zero_from i l)
@@ -175,17 +155,3 @@ module _ (flags : List ℕ) where
           let e : flag_place (Provisional p) (i / row_flags) ≡ i + speakers = omega arith in
           let z = ap (λ (j : ℕ). get_or flags j 0) (sym e) ∙ none p (i / row_flags) k (omega arith) in
           issuer_at i (omega arith) d ∙ larger_cases (λ r. r ≡ get_or flags i 0) (get_or flags i 0) (get_or flags (i + speakers) 0) (λ m. omega arith) (λ m. refl)
-
-  -- One more flag worked out, and all of them.
-
-  pub both_more : (both : List ℕ) (i v : ℕ) → length both ≡ all_flags → i < all_flags → v ≡ both_at flags i → ((k : ℕ) → k < i → get_or both k 0 ≡ both_at flags k) →
-      (k : ℕ) → k < i + 1 → get_or (set both i v) k 0 ≡ both_at flags k
-  both_more both i v len l e h k m = go (ℕ_discrete k i)
-    where
-      go : Dec (k ≡ i) → get_or (set both i v) k 0 ≡ both_at flags k
-      go (yes d) = ap (λ (j : ℕ). get_or (set both i v) j 0) d ∙ get_or-set_same both i v 0 (omega (arith, len)) ∙ e ∙ ap (both_at flags) (sym d)
-      go (no d) = get_or-set_other both i k v 0 d ∙ h k (omega arith)
-
-  pub both_done : (both : List ℕ) (i : ℕ) → length both ≡ all_flags → all_flags ≤ i → ((k : ℕ) → k < i → get_or both k 0 ≡ both_at flags k) → both ≡ both_flags flags
-  unfolding both_flags
-  both_done both i len l h = entries_all all_flags (both_at flags) both len (λ k m. h k (omega (arith, l, m)))

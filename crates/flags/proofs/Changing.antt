@@ -1,11 +1,11 @@
--- The flags after a change, by the status.
+-- Flags that are 0 or 1, after a change too.
 use Prim.Native.Nat.{ℕ, ◌*◌, ◌≤◌, ◌<◌}
 use native.Mathlib.Omega.{arith}
 use native.Mathlib.Decide.{ℕ_discrete}
 use lib.ListN.{length, get_or, set, length-set}
 use lib.Seq.{get_or-set_same, get_or-set_other}
-use mathlib.Core.Path.{◌≡◌, sym, ap, subst, ◌∙◌}
-use mathlib.Core.Bool.{Bool, true, false, cond, ◌||◌}
+use mathlib.Core.Path.{◌≡◌, ap, ◌∙◌}
+use mathlib.Core.Bool.{Bool, true, false, cond}
 use mathlib.Core.List.{List}
 use Rattle.sorts.specs.declared.Prin.{Prin}
 use Rattle.sorts.specs.declared.Status.{Status}
@@ -13,41 +13,7 @@ use Rattle.sorts.specs.declared.Status.TheVariants.{Trusted, Issued, Provisional
 use Rattle.sorts.specs.Numbers.{speakers, grants}
 use Rattle.sorts.specs.Flags.{StatusRange, row_flags, all_flags, flag_place}
 use Rattle.sorts.proofs.Flags.{place_in, place_fits}
-use Rattle.flags.specs.Changes.{is_set, put, entered_flags, there_flags, removed_flags}
-
-pub issued_form : (by : Status) (p : Prin) → by ≡ Issued p → StatusRange by → p.0 < speakers
-issued_form by p e f = subst StatusRange e f
-
-pub provisional_form : (by : Status) (p : Prin) → by ≡ Provisional p → StatusRange by → p.0 < speakers
-provisional_form by p e f = subst StatusRange e f
-
-module _ (flags : List ℕ) (by : Status) (g : ℕ) where
-  pub entered_trusted : (r : List ℕ) → by ≡ Trusted → r ≡ put flags Trusted g 1 → r ≡ entered_flags by g flags
-  entered_trusted r e h = h ∙ sym (ap (λ (b : Status). entered_flags b g flags) e)
-
-  pub entered_issued : (p : Prin) (f r : List ℕ) → by ≡ Issued p → f ≡ put flags (Provisional p) g 0 → r ≡ put f (Issued p) g 1 → r ≡ entered_flags by g flags
-  entered_issued p f r e h k = k ∙ ap (λ (l : List ℕ). put l (Issued p) g 1) h ∙ sym (ap (λ (b : Status). entered_flags b g flags) e)
-
-  pub entered_firm : (p : Prin) (b : Bool) → by ≡ Provisional p → b ≡ is_set flags (Issued p) g → b ≡ true → flags ≡ entered_flags by g flags
-  entered_firm p b e h k = sym (ap (λ (s : Status). entered_flags s g flags) e ∙ ap (λ (t : Bool). cond t flags (put flags (Provisional p) g 1)) (sym h ∙ k))
-
-  pub entered_provisional : (p : Prin) (b : Bool) (r : List ℕ) → by ≡ Provisional p → b ≡ is_set flags (Issued p) g → b ≡ false → r ≡ put flags (Provisional p) g 1 → r ≡ entered_flags by g flags
-  entered_provisional p b r e h k q = q ∙ sym (ap (λ (s : Status). entered_flags s g flags) e ∙ ap (λ (t : Bool). cond t flags (put flags (Provisional p) g 1)) (sym h ∙ k))
-
-  pub there_one : (s : Status) (r : Bool) → by ≡ s → r ≡ there_flags s g flags → r ≡ there_flags by g flags
-  there_one s r e h = h ∙ sym (ap (λ (b : Status). there_flags b g flags) e)
-
-  pub there_first : (p : Prin) (b : Bool) → by ≡ Issued p → b ≡ is_set flags (Issued p) g → b ≡ true → true ≡ there_flags by g flags
-  there_first p b e h k = sym (ap (λ (s : Status). there_flags s g flags) e ∙ ap (λ (t : Bool). t || is_set flags (Provisional p) g) (sym h ∙ k))
-
-  pub there_second : (p : Prin) (b r : Bool) → by ≡ Issued p → b ≡ is_set flags (Issued p) g → b ≡ false → r ≡ is_set flags (Provisional p) g → r ≡ there_flags by g flags
-  there_second p b r e h k q = q ∙ sym (ap (λ (s : Status). there_flags s g flags) e ∙ ap (λ (t : Bool). t || is_set flags (Provisional p) g) (sym h ∙ k))
-
-  pub removed_one : (s : Status) (r : List ℕ) → by ≡ s → r ≡ removed_flags s g flags → r ≡ removed_flags by g flags
-  removed_one s r e h = h ∙ sym (ap (λ (b : Status). removed_flags b g flags) e)
-
-  pub removed_issued : (p : Prin) (f r : List ℕ) → by ≡ Issued p → f ≡ put flags (Provisional p) g 0 → r ≡ put f (Issued p) g 0 → r ≡ removed_flags by g flags
-  removed_issued p f r e h k = k ∙ ap (λ (l : List ℕ). put l (Issued p) g 0) h ∙ sym (ap (λ (b : Status). removed_flags b g flags) e)
+use Rattle.flags.specs.Changes.{is_set, put, entered_flags, removed_flags}
 
 -- Flags that are 0 or 1, and 0 from the count on.
 pub record FlagsFit (count : ℕ) (F : List ℕ) : Type 0 where

@@ -1,3 +1,3 @@
 pub mod Both
 pub mod Changing
-pub mod Rows
+pub mod Ranges

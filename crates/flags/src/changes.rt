@@ -57,10 +57,7 @@ pub fn there(flags: [u8; Status::ALL], by: Status, g: GrantNo) -> bool
     match by {
         Status::Trusted => is_set(flags, Status::Trusted, g),
         Status::Issued(p) => {
-            if is_set(flags, Status::Issued(p), g) {
-                return true;
-            }
-            is_set(flags, Status::Provisional(p), g)
+            is_set(flags, Status::Issued(p), g) || is_set(flags, Status::Provisional(p), g)
         }
         Status::Provisional(p) => is_set(flags, Status::Provisional(p), g),
     }
@@ -99,14 +96,7 @@ fn apart_at(flags: &[u8; Status::ALL], no: GrantNo) -> bool
     requires { no.0 < grants }
     ensures { Decides result (ApartAt flags.now no.0) }
 {
-    let mut p: u8 = 0;
-    while p < Prin::SPEAKERS {
-        if clashes(flags, Prin(p), no) {
-            return false;
-        }
-        p += 1;
-    }
-    true
+    (0..Prin::SPEAKERS).all(|p| !clashes(flags, Prin(p), no))
 }
 
 // Whether no licence is both firm and provisional, where rows from the count on have no flags.
@@ -114,13 +104,5 @@ pub fn apart(flags: &[u8; Status::ALL], count: usize) -> bool
     requires { (count ≤ grants) × Unflagged flags.now count }
     ensures { Decides result (FlagsApart flags.now) }
 {
-    let n = count as u8;
-    let mut g: u8 = 0;
-    while g < n {
-        if !apart_at(flags, GrantNo(g)) {
-            return false;
-        }
-        g += 1;
-    }
-    true
+    (0..count as u8).all(|g| apart_at(flags, GrantNo(g)))
 }

@@ -7,17 +7,10 @@ ghost use Rattle.std.specs.Prelude.{◌≡◌, ◌<◌, length};
 ghost use Rattle.sorts.specs.Decides.{Decides};
 ghost use Rattle.sorts.specs.Numbers.{grants};
 ghost use Rattle.sorts.specs.Flags.{all_flags};
-ghost use Rattle.flags.specs.Both.{larger, both_at, both_flags, FirmOnly};
+ghost use Rattle.flags.specs.Both.{both_at, both_flags, FirmOnly};
 ghost use Rattle.flags.specs.Inner.Rows.{FirmAt};
 
 use sorts::{GrantNo, Prin, Status};
-
-// The larger of two flags.
-fn larger(a: u8, b: u8) -> u8
-    ensures { result ≡ larger a b }
-{
-    if a <= b { b } else { a }
-}
 
 // The flag at place i: of a principal's licence the larger of its two flags, firm and provisional, else the flag itself.
 fn both_at(flags: &[u8; Status::ALL], i: usize) -> u8
@@ -31,7 +24,7 @@ fn both_at(flags: &[u8; Status::ALL], i: usize) -> u8
     if Status::FIRM <= j {
         return flags[i];
     }
-    larger(flags[i], flags[i + Prin::SPEAKERS as usize])
+    flags[i].max(flags[i + Prin::SPEAKERS as usize])
 }
 
 // All flags so.
@@ -39,10 +32,8 @@ pub fn with_provisional(flags: [u8; Status::ALL]) -> [u8; Status::ALL]
     ensures { result ≡ both_flags flags }
 {
     let mut both = flags;
-    let mut i: usize = 0;
-    while i < Status::ALL {
+    for i in 0..Status::ALL {
         both[i] = both_at(&flags, i);
-        i += 1;
     }
     both
 }
@@ -52,27 +43,12 @@ fn firm_at(flags: &[u8; Status::ALL], no: GrantNo) -> bool
     requires { no.0 < grants }
     ensures { Decides result (FirmAt flags.now no.0) }
 {
-    let mut p: u8 = 0;
-    while p < Prin::SPEAKERS {
-        let i = Status::Provisional(Prin(p)).flag_place(no);
-        if flags[i] != 0 {
-            return false;
-        }
-        p += 1;
-    }
-    true
+    (0..Prin::SPEAKERS).all(|p| flags[Status::Provisional(Prin(p)).flag_place(no)] == 0)
 }
 
 // Whether no licence is provisional.
 pub fn firm_only(flags: &[u8; Status::ALL]) -> bool
     ensures { Decides result (FirmOnly flags.now) }
 {
-    let mut g: u8 = 0;
-    while g < GrantNo::COUNT {
-        if !firm_at(flags, GrantNo(g)) {
-            return false;
-        }
-        g += 1;
-    }
-    true
+    (0..GrantNo::COUNT).all(|g| firm_at(flags, GrantNo(g)))
 }

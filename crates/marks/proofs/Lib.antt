@@ -1,4 +1,3 @@
 pub mod Halves
 pub mod Loops
 pub mod Net
-pub mod Ones

@@ -3,23 +3,14 @@ ghost use Rattle.std.specs.Prelude.{◌≡◌, ℕ, ◌≤◌, get_or};
 ghost use Rattle.sorts.specs.Decides.{Decides};
 ghost use Rattle.marks.specs.Inner.Most.{Most};
 
-// The larger of two bytes.
-fn larger(a: u8, b: u8) -> u8
-    ensures { (a ≤ result) × (b ≤ result) × ((k : ℕ) → a ≤ k → b ≤ k → result ≤ k) }
-{
-    if a <= b { b } else { a }
-}
-
 // The largest byte from a place on, 0 where there is none.
 fn most(s: &[u8], from: usize) -> u8
     ensures { Most s.now from result }
 {
-    let n = s.len();
+    // No early exit, so that many bytes are compared at once.
     let mut m: u8 = 0;
-    let mut i = from;
-    while i < n {
-        m = larger(m, s[i]);
-        i += 1;
+    for i in from..s.len() {
+        m = m.max(s[i]);
     }
     m
 }

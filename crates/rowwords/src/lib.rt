@@ -50,9 +50,7 @@ fn concl_word(e: Concl) -> u64
 pub fn cond_word(c: Cond) -> u64
     ensures { result ≡ cond_word c }
 {
-    let p = c.who;
-    let e = c.what;
-    67108864 * p.0 as u64 + concl_word(e)
+    67108864 * c.who.0 as u64 + concl_word(c.what)
 }
 
 // The words of a row.
@@ -60,14 +58,12 @@ pub fn row_words(x: Row) -> [u64; WORDS]
     ensures { (k : ℕ) → k < 6 → get_or result k 0 ≡ row_word x k }
 {
     let c = x.conds;
-    let e = x.head;
-    let n = pack(x.prins, x.res, x.count, 0);
     [
-        n,
+        pack(x.prins, x.res, x.count, 0),
         cond_word(c[0]),
         cond_word(c[1]),
         cond_word(c[2]),
         cond_word(c[3]),
-        concl_word(e),
+        concl_word(x.head),
     ]
 }

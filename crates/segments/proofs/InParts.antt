@@ -1,47 +1,52 @@
--- Two parts of a buffer compared byte by byte.
-use Prim.Native.Nat.{ℕ, ◌+◌, ◌≤◌, ◌<◌, compare, Ordering}
-use mathlib.Core.List.{List, []}
-use mathlib.Core.Path.{◌≡◌, ◌∙◌, ap, ap₂}
+-- Bytes in order, as the library compares them; and a part of a buffer turned.
+use Prim.Native.Nat.{ℕ, ◌+◌, ◌-◌, ◌≤◌, compare, Ordering}
+use mathlib.Core.List.{List, [], ◌∷◌, ◌++◌, append_assoc}
+use mathlib.Core.Path.{◌≡◌, refl, sym, ap, ap₂, ◌∙◌}
 use native.Mathlib.Omega.{arith}
-use native.Mathlib.Numerals.{add-one}
-use lib.ListN.{length, get_or, take, drop_of_length-le}
-use lib.Seq.{slice-cons, length-take-le}
+use lib.ListN.{take, drop}
+use borrow.Rule.Slice.PartMut.{put_mid, Post-is}
+use Rattle.std.proofs.lemmas.List.{drop-take, drop-drop}
+use lib.Seq.{take-take}
+use Rattle.segments.specs.Segments.{part, turn}
+use Rattle.std.specs.Ordering.{nat_cmp, ordering_then}
+use Rattle.std.specs.Cmp.Lexicographic.{slice_cmp}
+use Rattle.std.proofs.lemmas.Bool.Decides.{nat_tests}
 use Rattle.canon.specs.Canon.{and_then, order}
-use Rattle.segments.specs.Segments.{part}
-use Rattle.canon.proofs.Order.{compare_refl, lt_compare, compare_flip, flip}
+use Rattle.canon.proofs.Order.{compare_lt, compare_eq, compare_flip, flip}
+use Rattle.segments.specs.Inner.Ranges.{ordering_of}
 
--- a part that begins at its end is empty
-part_none : (l : List ℕ) (a e : ℕ) → e ≤ a → e ≤ length l → part a e l ≡ []
-part_none l a e h k = drop_of_length-le (take e l) {i = a} (omega (arith, length-take-le e l k))
+-- two numbers, as the library compares them
+number_cmp : (a b : ℕ) (o : Ordering) → compare a b ≡ o → nat_cmp a b ≡ ordering_of o
+number_cmp a b Ordering.lt e = let h = compare_lt a b e in grind (arith, nat_tests)
+number_cmp a b Ordering.eq e = let h = compare_eq a b e in grind (arith, nat_tests)
+number_cmp a b Ordering.gt e = let h = compare_lt b a (compare_flip a b ∙ ap flip e) in grind (arith, nat_tests)
 
-module _ (l : List ℕ) (a e b f : ℕ) where
-  -- the first bytes decide, and where they are equal what follows them
-  pub order_step : a < e → e ≤ length l → b < f → f ≤ length l → order (part a e l) (part b f l) ≡ and_then (compare (get_or l a 0) (get_or l b 0)) (order (part (a + 1) e l) (part (b + 1) f l))
-  unfolding order
-  order_step h k h' k' = rw (add-one, add-one) (ap₂ order (slice-cons a e l 0 h k) (slice-cons b f l 0 h' k'))
+pub order_cmp : (x y : List ℕ) → slice_cmp nat_cmp x y ≡ ordering_of (order x y)
+unfolding order
+order_cmp [] [] = refl
+order_cmp [] (b ∷ y) = refl
+order_cmp (a ∷ x) [] = refl
+order_cmp (a ∷ x) (b ∷ y) = rw (number_cmp a b (compare a b) refl) (go (compare a b) (order_cmp x y))
+  where
+    go : (o : Ordering) → slice_cmp nat_cmp x y ≡ ordering_of (order x y) → ordering_then (ordering_of o) (slice_cmp nat_cmp x y) ≡ ordering_of (and_then o (order x y))
+    go Ordering.lt e = refl
+    go Ordering.eq e = e
+    go Ordering.gt e = refl
 
-  pub order_below : a < e → e ≤ length l → b < f → f ≤ length l → get_or l a 0 < get_or l b 0 → order (part a e l) (part b f l) ≡ Ordering.lt
-  order_below h k h' k' s = order_step h k h' k' ∙ ap (λ (o : Ordering). and_then o (order (part (a + 1) e l) (part (b + 1) f l))) (lt_compare (get_or l a 0) (get_or l b 0) s)
+-- A part, as the library cuts it out.
+pub part_cut : (l : List ℕ) (a e : ℕ) → a ≤ e → take (e - a) (drop a l) ≡ part a e l
+part_cut l a e h = let q : a + (e - a) ≡ e = omega arith in sym (drop-take a (e - a) l) ∙ ap (λ (n : ℕ). drop a (take n l)) q
 
-  pub order_above : a < e → e ≤ length l → b < f → f ≤ length l → get_or l b 0 < get_or l a 0 → order (part a e l) (part b f l) ≡ Ordering.gt
-  order_above h k h' k' s =
-      order_step h k h' k'
-      ∙ ap (λ (o : Ordering). and_then o (order (part (a + 1) e l) (part (b + 1) f l))) (compare_flip (get_or l b 0) (get_or l a 0) ∙ ap flip (lt_compare (get_or l b 0) (get_or l a 0) s))
+-- A part whose two halves change places.
+module _ (l : List ℕ) (a b e : ℕ) (h : a ≤ b) (k : b ≤ e) where
+  second : drop (b - a) (part a e l) ≡ part b e l
+  second = drop-drop (b - a) a (take e l) ∙ ap (λ (n : ℕ). drop n (take e l)) (omega arith)
 
-  pub order_on : a < e → e ≤ length l → b < f → f ≤ length l → get_or l a 0 ≡ get_or l b 0 → order (part a e l) (part b f l) ≡ order (part (a + 1) e l) (part (b + 1) f l)
-  order_on h k h' k' s =
-      order_step h k h' k'
-      ∙ ap (λ (o : Ordering). and_then o (order (part (a + 1) e l) (part (b + 1) f l))) (ap (compare (get_or l a 0)) (rw s) ∙ compare_refl (get_or l a 0))
+  first : take (b - a) (part a e l) ≡ part a b l
+  first = ap (take (b - a)) (sym (part_cut l a e (omega arith))) ∙ take-take (b - a) (e - a) (drop a l) (omega arith) ∙ part_cut l a b h
 
-  -- where the one has no byte left
-  pub order_longer : a < e → e ≤ length l → f ≤ b → f ≤ length l → order (part a e l) (part b f l) ≡ Ordering.gt
-  unfolding order
-  order_longer h k h' k' = ap₂ order (slice-cons a e l 0 h k) (part_none l b f h' k')
-
-  pub order_shorter : e ≤ a → e ≤ length l → b < f → f ≤ length l → order (part a e l) (part b f l) ≡ Ordering.lt
-  unfolding order
-  order_shorter h k h' k' = ap₂ order (part_none l a e h k) (slice-cons b f l 0 h' k')
-
-  pub order_ended : e ≤ a → e ≤ length l → f ≤ b → f ≤ length l → order (part a e l) (part b f l) ≡ Ordering.eq
-  unfolding order
-  order_ended h k h' k' = ap₂ order (part_none l a e h k) (part_none l b f h' k')
+  pub turned : (r : List ℕ) → r ≡ drop (b - a) (take (e - a) (drop a l)) ++ take (b - a) (take (e - a) (drop a l)) → put_mid a (e - a) l r ≡ turn l a b e
+  turned r q =
+      let c = part_cut l a e (omega arith) in
+      let s : r ≡ part b e l ++ part a b l = q ∙ ap₂ ◌++◌ (ap (drop (b - a)) c ∙ second) (ap (take (b - a)) c ∙ first) in
+      ap (λ (x : List ℕ). take a l ++ x) (ap₂ ◌++◌ s (Post-is a e l (omega arith)) ∙ append_assoc (part b e l) (part a b l) (drop e l))

@@ -1,3 +1,2 @@
 pub mod InParts
-pub mod Reversed
 pub mod Seats

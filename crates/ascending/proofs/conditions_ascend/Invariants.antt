@@ -1,4 +1,4 @@
-use Prim.Native.Nat.{ℕ, ◌-◌, ◌<◌}
+use Prim.Native.Nat.{ℕ, ◌<◌}
 use mathlib.Core.Path.{◌≡◌}
 use lib.ListN.{length, get_or}
 use Rattle.sorts.specs.Blank.{no_row}
@@ -9,7 +9,4 @@ use Rattle.ascending.proofs.Rows.{stands}
 use Rattle.ascending.proofs.conditions_ascend.Given as goal
 
 abbrev pub invariant-loop-i : goal.invariant-loop-i
-invariant-loop-i l = (length l.words ≡ 384) × Worded l.words l.t.rows l.i × ((form : TableForm l.t) → (k : ℕ) → k < l.i → Ascends (stands l.t form) (get_or l.t.rows k no_row))
-
-abbrev pub decreases-loop-i : goal.decreases-loop-i
-decreases-loop-i l = l.n - l.i
+invariant-loop-i l = (length l.words ≡ 64) × Worded l.words l.t.rows l.i × ((form : TableForm l.t) → (k : ℕ) → k < l.i → Ascends (stands l.t form) (get_or l.t.rows k no_row))

@@ -1,10 +1,9 @@
 -- What the code of writing has at hand, told as the model tells it.
-use Rattle.std.specs.Prelude.{ℕ, zero, suc, ◌+◌, ◌≤◌, ◌≡◌, List, length, take}
+use Rattle.std.specs.Prelude.{ℕ, zero, suc, ◌+◌, ◌≤◌, List, sum, take}
 use Rattle.sorts.specs.Numbers.{conditions}
 use Rattle.canonwrite.specs.declared.Place.{Place}
 use Rattle.canonwrite.specs.declared.Segments.{Segments}
 use Rattle.canonwrite.specs.Buffer.{Spot, Kept}
-use Rattle.segments.specs.Inner.Ranges.{sum}
 
 abbrev pub spot_of : List ℕ → Place → Spot
 spot_of out p = record { out = out; at = p.at; to = p.to }
@@ -20,5 +19,4 @@ room (suc k) m = 4 + m + room k m
 -- the segments from b on end before the place up to which the buffer is written
 pub record SegmentsFit (b : ℕ) (k : Segments) : Type 0 where
   pub count : k.count ≤ conditions
-  pub places : length k.lens ≡ conditions
   pub sums : b + sum k.lens ≤ k.to

@@ -1,17 +1,9 @@
-use mathlib.Core.Path.{refl}
-use native.Mathlib.Omega.{arith}
 use borrow.Author.Rules.{rules}
 use Rattle.depths.proofs.Depths.{too_deep, worked_more}
 use Rattle.depths.proofs.depths_ok.Goals as goal
-
-pub loop-i-init : goal.loop-i-init
-loop-i-init c = record { places = refl; right = λ j l. absurd (omega arith); low = λ j l. absurd (omega arith) }
 
 pub returns-then-d-ge-DEPTHS : goal.returns-then-d-ge-DEPTHS
 returns-then-d-ge-DEPTHS c = λ f. too_deep c.args.t.rows c.args.t.count c.requires.0 c.requires.1 c.loop-i.i c.held_depth-d.result c.loop-i.depths c.loop-i-test.true c.loop-i.invariant c.held_depth-d.ensures (search rules) (f c.loop-i.i c.loop-i-test.true)
 
 pub loop-i-preserved : goal.loop-i-preserved
 loop-i-preserved c = worked_more c.args.t.rows c.args.t.count c.requires.0 c.requires.1 c.loop-i.i c.held_depth-d.result c.loop-i.depths c.loop-i-test.true c.loop-i.invariant c.held_depth-d.ensures (search rules)
-
-pub returns : goal.returns
-returns c = let l = c.loop-i-test.false in λ k h. c.loop-i.invariant.low k (omega arith)

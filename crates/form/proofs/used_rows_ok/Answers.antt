@@ -1,15 +1,23 @@
+use Prim.Native.Nat.{ℕ, ◌<◌}
+use mathlib.Core.Path.{◌≡◌, refl, sym, subst}
 use native.Mathlib.Omega.{arith}
-use Rattle.rows.proofs.Deciding.{each_more}
+use lib.ListN.{get_or}
+use borrow.Author.Rules.{rules}
+use borrow.Author.Tests.{tests}
+use Rattle.std.specs.List.{range_with_len}
+use Rattle.std.proofs.lemmas.List.FromFn.{length-range_with_len, get_or-range_with_len}
+use Rattle.std.proofs.lemmas.Iterator.{YieldsList-from_range}
+use Rattle.sorts.specs.Blank.{no_row}
+use Rattle.sorts.specs.RowForm.{RowForm}
+use Rattle.form.proofs.Deciding.{all_decides}
 use Rattle.form.proofs.used_rows_ok.Goals as goal
 
-pub loop-i-init : goal.loop-i-init
-loop-i-init c = λ k l. absurd (omega arith)
-
-pub returns-then-not-row_ok : goal.returns-then-not-row_ok
-returns-then-not-row_ok c = λ f. (rw c.if-not-row_ok.true at c.row_ok.ensures) (f c.loop-i.i c.loop-i-test.true)
-
-pub loop-i-preserved : goal.loop-i-preserved
-loop-i-preserved c = each_more _ c.loop-i.i c.loop-i.invariant (rw c.if-not-row_ok.false at c.row_ok.ensures)
-
 pub returns : goal.returns
-returns c = let l = c.loop-i-test.false in λ k h. c.loop-i.invariant k (omega arith)
+returns c =
+    let n = c.args.t.count in
+    let P : ℕ → Type 0 = λ i. RowForm i (get_or c.args.t.rows i no_row) in
+    let at : (i : ℕ) → i < n → get_or (range_with_len 0 n) i 0 ≡ i = λ i l. omega (arith, get_or-range_with_len 0 n i 0 l) in
+    all_decides (range_with_len 0 n) 0 _ _ c.all.result P c.all.ensures.ran
+    (YieldsList-from_range 0 n n refl (omega arith)) (λ x q k. search (rules, tests)) (λ x q k. search (rules, tests))
+    (λ h i l. subst P (at i l) (h i (omega (arith, l, length-range_with_len 0 n))))
+    (λ h k l. let m : k < n = omega (arith, l, length-range_with_len 0 n) in subst P (sym (at k m)) (h k m))

@@ -1,4 +1,4 @@
 use Rattle.bookform.proofs.Book.new.Goals as goal
 
 pub returns : goal.returns
-returns c = rw c.blank-r.ensures
+returns c = rw c.blank-rows.ensures

@@ -1,31 +1,24 @@
-use mathlib.Core.Path.{subst}
-use mathlib.Core.Bool.{Bool}
+use Prim.Native.Nat.{ℕ, ◌<◌}
+use mathlib.Core.List.{List}
 use native.Mathlib.Omega.{arith}
-use Rattle.sorts.specs.Decides.{Decides}
+use native.Mathlib.Decide.{dec_lt}
+use borrow.Author.Rules.{rules}
+use borrow.Author.Tests.{tests}
+use Rattle.sorts.specs.declared.Status.TheVariants.{Issued}
+use Rattle.sorts.specs.Flags.{flag_place}
+use Rattle.flags.specs.Changes.{Unflagged, FlagsApart}
 use Rattle.flags.specs.Inner.Rows.{ApartAt}
-use Rattle.flags.proofs.Rows.{one_more, apart_below, apart_row}
+use Rattle.flags.proofs.Ranges.{all_decides}
 use Rattle.flags.proofs.changes.apart.Goals as goal
 
-pub overflow_cast-n : goal.overflow_cast-n
-overflow_cast-n c = omega (arith, c.requires.0)
-
-pub loop-g-init : goal.loop-g-init
-loop-g-init c = (omega arith, λ h l. absurd (omega arith))
-
-pub apart_at-requires : goal.apart_at-requires
-apart_at-requires c = omega (arith, c.loop-g-test.true, c.requires.0)
-
-pub returns-then-not-apart_at : goal.returns-then-not-apart_at
-returns-then-not-apart_at c = apart_row c.args.flags.now c.loop-g.g (subst (λ (b : Bool). Decides b (ApartAt c.args.flags.now c.loop-g.g)) c.if-not-apart_at.true c.apart_at.ensures)
-
-pub overflow_add-g : goal.overflow_add-g
-overflow_add-g c = omega (arith, c.loop-g-test.true, c.requires.0)
-
-pub loop-g-smaller : goal.loop-g-smaller
-loop-g-smaller c = omega (arith, c.loop-g-test.true)
-
-pub loop-g-preserved : goal.loop-g-preserved
-loop-g-preserved c = (omega (arith, c.loop-g-test.true), one_more c.loop-g.g c.loop-g.invariant.1 (subst (λ (b : Bool). Decides b (ApartAt c.args.flags.now c.loop-g.g)) c.if-not-apart_at.false c.apart_at.ensures))
+all_apart : (flags : List ℕ) (count : ℕ) → Unflagged flags count → ((g : ℕ) → g < count → ApartAt flags g) → FlagsApart flags
+all_apart flags count u h p g l e f = go (dec_lt g count)
+  where
+    go : Dec (g < count) → ⊥
+    go (yes m) = h g m p l (e, f)
+    go (no m) = omega (arith, e, u (flag_place (Issued p) g) (omega arith))
 
 pub returns : goal.returns
-returns c = apart_below c.args.flags.now c.args.count c.loop-g.g c.requires.1 (omega (arith, c.loop-g-test.false)) c.loop-g.invariant.1
+returns c =
+    all_decides _ _ _ c.all.result (ApartAt c.args.flags.now) c.all.ensures.ran (λ x q k. search (rules, tests)) (λ x q k. search (rules, tests))
+    (λ h. all_apart c.args.flags.now c.args.count c.requires.1 (λ g m. h g (omega arith) m)) (λ h g l m p k e. h p g k e.0 e.1)

@@ -1,16 +1,22 @@
+use Prim.Native.Nat.{ℕ, ◌+◌}
+use mathlib.Core.Bool.{Bool, true, false, cond}
+use mathlib.Core.List.{List}
+use mathlib.Core.Path.{◌≡◌, refl, sym, ◌∙◌}
 use native.Mathlib.Omega.{arith}
+use lib.Dec.{eqb}
 use borrow.Author.Rules.{rules}
-use Rattle.marks.proofs.Ones.{ones_step, ones_end}
+use Rattle.std.specs.List.{count_by}
+use Rattle.std.proofs.lemmas.List.Recursion.{is_count_by}
+use Rattle.marks.specs.Counts.{ones}
 use Rattle.marks.proofs.standing.standing.Goals as goal
 
-pub loop-i-init : goal.loop-i-init
-loop-i-init c = (search rules, search rules, search rules)
+one_more : (t : Bool) (n : ℕ) → cond t 1 0 + n ≡ cond t (1 + n) n
+one_more true n = refl
+one_more false n = omega arith
 
-pub overflow_add-k : goal.overflow_add-k
-overflow_add-k c = omega (arith, c.one-k.ensures.1)
-
-pub loop-i-preserved : goal.loop-i-preserved
-loop-i-preserved c = (search rules, omega (arith, c.one-k.ensures.1), omega (arith, c.one-k.ensures.0, c.loop-i.invariant.2, ones_step c.args.marks.now c.loop-i.i (search rules)))
+ones_counted : (m : List ℕ) → ones m ≡ count_by (λ a. eqb a 1) m
+unfolding ones
+ones_counted = is_count_by ones (λ a. eqb a 1) refl (λ x xs. one_more (eqb x 1) (ones xs))
 
 pub returns : goal.returns
-returns c = omega (arith, c.loop-i.invariant.2, ones_end c.args.marks.now c.loop-i.i (search rules))
+returns c = let e : c.count.result ≡ count_by (λ a. eqb a 1) c.args.marks.now = search rules in e ∙ sym (ones_counted c.args.marks.now)
