@@ -1,3 +1,4 @@
 -- What only the contracts of inner functions cite.
 pub mod Bits
+pub mod Kinds
 pub mod Layout
