@@ -9,7 +9,7 @@ ghost use Rattle.answer.specs.Inner.Answering.{refused_with, queried};
 use bookform::Book;
 use marks::Counts;
 use rows::Table;
-use sorts::{Concl, Number};
+use sorts::{Concl, Number, Refusal};
 
 // What a call answers.
 #[derive(Clone, Copy)]
@@ -19,7 +19,7 @@ pub enum Answer {
     NotPermitted,
     Changed(Counts),
     Previewed(Counts),
-    Refused(u8),
+    Refused(Refusal),
 }
 
 // The book that a call leaves, its answer, and the bytes of the record used.
@@ -30,8 +30,8 @@ pub struct Answered {
     pub used: usize,
 }
 
-// The refusal with number k: the book stays.
-pub fn refuse(b: Book, k: u8, used: usize) -> Answered
+// A refusal: the book stays.
+pub fn refuse(b: Book, k: Refusal, used: usize) -> Answered
     ensures { result ≡ refused_with b k used }
 {
     Answered {
@@ -46,7 +46,7 @@ pub fn answer_for(c: Concl, marks: &[u8], second: &[u8]) -> Answer
     requires { (number_of c < length marks.now) × (number_of c < length second.now) }
     ensures { result ≡ answer_at marks.now second.now (number_of c) }
 {
-    let i = Number::of(c).truth();
+    let i = Number::from(c).truth();
     if marks[i] == 1 {
         return Answer::Permitted;
     }
@@ -62,8 +62,9 @@ pub fn query(b: Book, t: Table, c: Concl, marks: &[u8], second: &[u8], used: usi
     requires { (number_of c < length marks.now) × (number_of c < length second.now) }
     ensures { result ≡ queried b t c marks.now second.now used }
 {
-    let flags = b.flags;
-    let book = Book { table: t, flags };
-    let answer = answer_for(c, marks, second);
-    Answered { book, answer, used }
+    Answered {
+        book: Book { table: t, ..b },
+        answer: answer_for(c, marks, second),
+        used,
+    }
 }

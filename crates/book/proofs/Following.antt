@@ -10,6 +10,8 @@ use Rattle.sorts.specs.declared.Status.{Status}
 use Rattle.sorts.specs.declared.Status.TheVariants.{Trusted, Issued, Provisional}
 use Rattle.sorts.specs.Numbers.{number_of, all_marks, grants}
 use Rattle.sorts.specs.Flags.{StatusRange}
+use Rattle.sorts.specs.declared.Refusal.TheVariants as refusal
+use Rattle.sorts.specs.declared.Refusal.{Refusal}
 use Rattle.rows.specs.declared.Table.{Table}
 use Rattle.rows.specs.Written.{Grant, Concl}
 use Rattle.rows.specs.Numbering.{place, has, number, number_concl}
@@ -87,14 +89,14 @@ module _ (b : Book) (m k v s : List ℕ) (f : BookForm b m k) (vl : length v ≡
     apart : Apart E
     apart = flags_apart N b.flags E (over N (ext_refl N) (form_shown b.table f.table).distinct) f.apart
 
-    refused_steps : (j n : ℕ) → Follows M (refuse M j n) b m k v (refused_with b j n) m k v
+    refused_steps : (j : Refusal) (n : ℕ) → Follows M (refuse M j n) b m k v (refused_with b j n) m k v
     unfolding answer_of marks_after second_after preview_after
     refused_steps j n = record { answer = refl; used = refl; marks = refl; second = refl; preview = refl; shows = sh; form = f; kept = λ i e. refl; untouched = λ q h e. refl }
 
-    no_change : {j : ℕ} → changes ≡ refuses j → ⊥
+    no_change : {j : Refusal} → changes ≡ refuses j → ⊥
     no_change e = let z : ◌≡◌ {A = ℕ} 0 1 = cc in omega arith
 
-    no_asks : {c j : ℕ} → asks c ≡ refuses j → ⊥
+    no_asks : {c : ℕ} {j : Refusal} → asks c ≡ refuses j → ⊥
     no_asks e = let z : ◌≡◌ {A = ℕ} 0 1 = cc in omega arith
 
     no_show : {p : Prin} {g : Grant} → changes ≡ previews p g → ⊥
@@ -103,7 +105,7 @@ module _ (b : Book) (m k v s : List ℕ) (f : BookForm b m k) (vl : length v ≡
     asks_shows : {c : ℕ} {p : Prin} {g : Grant} → asks c ≡ previews p g → ⊥
     asks_shows e = let z : ◌≡◌ {A = ℕ} 0 1 = cc in omega arith
 
-    shows_refused : {p : Prin} {g : Grant} {j : ℕ} → previews p g ≡ refuses j → ⊥
+    shows_refused : {p : Prin} {g : Grant} {j : Refusal} → previews p g ≡ refuses j → ⊥
     shows_refused e = let z : ◌≡◌ {A = ℕ} 0 1 = cc in omega arith
 
     -- over a table that shows N'
@@ -169,13 +171,13 @@ module _ (b : Book) (m k v s : List ℕ) (f : BookForm b m k) (vl : length v ≡
     -- to enter
 
     module _ (by : Status) (known : StatusRange by) (g : Grant) (own : Canonical g) (n : ℕ) (rows' : fits (number g N) ≡ true → rows_out r.table.rows r.table.count ≡ number g N) where
-      enter_steps : (c : Bool) → fits (number g N) ≡ c → Follows M (cond c (change (entered by g E) (number g N) n) (refuse M 6 n)) b m k v
+      enter_steps : (c : Bool) → fits (number g N) ≡ c → Follows M (cond c (change (entered by g E) (number g N) n) (refuse M refusal.Full n)) b m k v
           (applied_to b m k r.table (cond c (found.Asks (Enter by (record { 0 = place g (number g N) })) n) (found.Full n)))
           (marks_applied_to firm_marks b m r.table (cond c (found.Asks (Enter by (record { 0 = place g (number g N) })) n) (found.Full n)))
           (marks_applied_to both_marks b k r.table (cond c (found.Asks (Enter by (record { 0 = place g (number g N) })) n) (found.Full n))) (preview_applied_to b v (cond c (found.Asks (Enter by (record { 0 = place g (number g N) })) n) (found.Full n)))
       enter_steps true e =
           entered_steps r.table (R.form f.table) (number g N) (rows' e) (number_ext g N) (number_in_form g N own numbered) by known g (number_has g N) n
-      enter_steps false e = refused_steps 6 n
+      enter_steps false e = refused_steps refusal.Full n
 
     -- to remove, and to confirm
 
@@ -188,16 +190,16 @@ module _ (b : Book) (m k v s : List ℕ) (f : BookForm b m k) (vl : length v ≡
 
     -- a change where there is something to change, by what the flags say and by what stands
     picked : (D : List Entry) (b' : Book) (n : ℕ) → Follows M (change D N n) b m k v (changed_to b' m n) (firm_marks b') (both_marks b') v → (c d : Bool) → c ≡ d →
-        Follows M (cond d (change D N n) (refuse M 7 n)) b m k v (cond c (changed_to b' m n) (refused_with b 7 n)) (cond c (firm_marks b') m) (cond c (both_marks b') k) v
+        Follows M (cond d (change D N n) (refuse M refusal.Absent n)) b m k v (cond c (changed_to b' m n) (refused_with b refusal.Absent n)) (cond c (firm_marks b') m) (cond c (both_marks b') k) v
     picked D b' n S true true e = S
     picked D b' n S true false e = absurd (no_true (sym e))
     picked D b' n S false true e = absurd (no_true e)
-    picked D b' n S false false e = refused_steps 7 n
+    picked D b' n S false false e = refused_steps refusal.Absent n
 
     -- nothing to change
-    left : (st : Step) (n : ℕ) (d : Bool) → d ≡ false → Follows M (cond d st (refuse M 7 n)) b m k v (refused_with b 7 n) m k v
+    left : (st : Step) (n : ℕ) (d : Bool) → d ≡ false → Follows M (cond d st (refuse M refusal.Absent n)) b m k v (refused_with b refusal.Absent n) m k v
     left st n true e = absurd (no_true (sym e))
-    left st n false e = refused_steps 7 n
+    left st n false e = refused_steps refusal.Absent n
 
     module _ (g : Grant) (n : ℕ) where
       not_there : has g N ≡ false → (by : Status) → there by g E ≡ false
@@ -205,7 +207,7 @@ module _ (b : Book) (m k v s : List ℕ) (f : BookForm b m k) (vl : length v ≡
       not_there e (Issued p) = rw (not_true_false (stands M (Issued p) g) (absent g e (Issued p))) (not_true_false (stands M (Provisional p) g) (absent g e (Provisional p)))
       not_there e (Provisional p) = not_true_false (stands M (Provisional p) g) (absent g e (Provisional p))
 
-      remove_steps : (by : Status) → StatusRange by → (d : Bool) → has g N ≡ d → Follows M (cond (there by g E) (change (removed by g E) N n) (refuse M 7 n)) b m k v
+      remove_steps : (by : Status) → StatusRange by → (d : Bool) → has g N ≡ d → Follows M (cond (there by g E) (change (removed by g E) N n) (refuse M refusal.Absent n)) b m k v
           (applied_to b m k r.table (cond d (found.Asks (Remove by (record { 0 = place g N })) n) (found.Unknown n)))
           (marks_applied_to firm_marks b m r.table (cond d (found.Asks (Remove by (record { 0 = place g N })) n) (found.Unknown n)))
           (marks_applied_to both_marks b k r.table (cond d (found.Asks (Remove by (record { 0 = place g N })) n) (found.Unknown n))) (preview_applied_to b v (cond d (found.Asks (Remove by (record { 0 = place g N })) n) (found.Unknown n)))
@@ -214,7 +216,7 @@ module _ (b : Book) (m k v s : List ℕ) (f : BookForm b m k) (vl : length v ≡
           (there_flags by (place g N) b.flags) (there by g E) (there_shown N small distinct g h b.flags E (over N (ext_refl N) distinct) by known)
       remove_steps by known false h = left (change (removed by g E) N n) n (there by g E) (not_there h by)
 
-      confirm_steps : (p : Prin) → StatusRange (Issued p) → (d : Bool) → has g N ≡ d → Follows M (cond (stands M (Provisional p) g) (change (entered (Issued p) g E) N n) (refuse M 7 n)) b m k v
+      confirm_steps : (p : Prin) → StatusRange (Issued p) → (d : Bool) → has g N ≡ d → Follows M (cond (stands M (Provisional p) g) (change (entered (Issued p) g E) N n) (refuse M refusal.Absent n)) b m k v
           (applied_to b m k r.table (cond d (found.Asks (Confirm p (record { 0 = place g N })) n) (found.Unknown n)))
           (marks_applied_to firm_marks b m r.table (cond d (found.Asks (Confirm p (record { 0 = place g N })) n) (found.Unknown n)))
           (marks_applied_to both_marks b k r.table (cond d (found.Asks (Confirm p (record { 0 = place g N })) n) (found.Unknown n))) (preview_applied_to b v (cond d (found.Asks (Confirm p (record { 0 = place g N })) n) (found.Unknown n)))
@@ -224,14 +226,14 @@ module _ (b : Book) (m k v s : List ℕ) (f : BookForm b m k) (vl : length v ≡
       confirm_steps p known false h = left (change (entered (Issued p) g E) N n) n (stands M (Provisional p) g) (not_true_false (stands M (Provisional p) g) (absent g h (Provisional p)))
 
       -- to preview: what stands without the licence, by what the flags say and by what stands
-      seen : (p : Prin) (c d : Bool) → c ≡ d → Follows M (cond d (previewed M p g n) (refuse M 7 n)) b m k v (cond c (previewed_by b (removed_book b (Issued p) (place g N)) m n) (refused_with b 7 n)) m k (cond c (firm_marks (removed_book b (Issued p) (place g N))) v)
+      seen : (p : Prin) (c d : Bool) → c ≡ d → Follows M (cond d (previewed M p g n) (refuse M refusal.Absent n)) b m k v (cond c (previewed_by b (removed_book b (Issued p) (place g N)) m n) (refused_with b refusal.Absent n)) m k (cond c (firm_marks (removed_book b (Issued p) (place g N))) v)
       unfolding answer_of marks_after second_after preview_after
       seen p true true e = record { answer = refl; used = refl; marks = refl; second = refl; preview = refl; shows = sh; form = f; kept = λ j e. absurd (shows_refused e); untouched = λ q h e. refl }
       seen p true false e = absurd (no_true (sym e))
       seen p false true e = absurd (no_true e)
-      seen p false false e = refused_steps 7 n
+      seen p false false e = refused_steps refusal.Absent n
 
-      preview_steps : (p : Prin) → StatusRange (Issued p) → (d : Bool) → has g N ≡ d → Follows M (cond (there (Issued p) g E) (previewed M p g n) (refuse M 7 n)) b m k v
+      preview_steps : (p : Prin) → StatusRange (Issued p) → (d : Bool) → has g N ≡ d → Follows M (cond (there (Issued p) g E) (previewed M p g n) (refuse M refusal.Absent n)) b m k v
           (applied_to b m k r.table (cond d (found.Asks (Preview p (record { 0 = place g N })) n) (found.Unknown n)))
           (marks_applied_to firm_marks b m r.table (cond d (found.Asks (Preview p (record { 0 = place g N })) n) (found.Unknown n)))
           (marks_applied_to both_marks b k r.table (cond d (found.Asks (Preview p (record { 0 = place g N })) n) (found.Unknown n))) (preview_applied_to b v (cond d (found.Asks (Preview p (record { 0 = place g N })) n) (found.Unknown n)))
@@ -242,7 +244,7 @@ module _ (b : Book) (m k v s : List ℕ) (f : BookForm b m k) (vl : length v ≡
     -- to query
 
     query_steps : (c : Concl) → CanonicalConcl c → (n : ℕ) → (fits (number_concl c N) ≡ true → rows_out r.table.rows r.table.count ≡ number_concl c N) → (d : Bool) → fits (number_concl c N) ≡ d →
-        Follows M (cond d (record { next = record { entries = E; N = number_concl c N }; says = asks (number_of (concl_of (number_concl c N) c)); used = n }) (refuse M 6 n)) b m k v
+        Follows M (cond d (record { next = record { entries = E; N = number_concl c N }; says = asks (number_of (concl_of (number_concl c N) c)); used = n }) (refuse M refusal.Full n)) b m k v
         (applied_to b m k r.table (cond d (found.Asks (Query (concl_of (number_concl c N) c)) n) (found.Full n)))
         (marks_applied_to firm_marks b m r.table (cond d (found.Asks (Query (concl_of (number_concl c N) c)) n) (found.Full n)))
         (marks_applied_to both_marks b k r.table (cond d (found.Asks (Query (concl_of (number_concl c N) c)) n) (found.Full n))) (preview_applied_to b v (cond d (found.Asks (Query (concl_of (number_concl c N) c)) n) (found.Full n)))
@@ -273,7 +275,7 @@ module _ (b : Book) (m k v s : List ℕ) (f : BookForm b m k) (vl : length v ≡
 
         more : length N ≤ r.table.count
         more = let x = ext_length (concl_more c N) in let y = sym (out_length r.table.rows r.table.count) ∙ ap length (rows' e) in omega arith
-    query_steps c own n rows' false e = refused_steps 6 n
+    query_steps c own n rows' false e = refused_steps refusal.Full n
 
     record_steps : (q : Record) (n : ℕ) → read_canonical s ≡ got q n → Follows M (act M q n) b m k v
         (applied_to b m k r.table (found_of N (extent s) (got q n))) (marks_applied_to firm_marks b m r.table (found_of N (extent s) (got q n))) (marks_applied_to both_marks b k r.table (found_of N (extent s) (got q n))) (preview_applied_to b v (found_of N (extent s) (got q n)))

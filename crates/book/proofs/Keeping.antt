@@ -20,8 +20,12 @@ use Rattle.renewing.specs.Inner.Buffers.{firm_marks, both_marks}
 use Rattle.answer.specs.Inner.Answering.{refused_with}
 use Rattle.requests.specs.Inner.Apply.{applied_to, applied, marks_applied, preview_applied}
 use Rattle.book.proofs.Following.{follows}
+use Rattle.sorts.specs.declared.Refusal.{Refusal}
+use Rattle.sorts.specs.declared.Refusal.TheVariants as refusal
+use Rattle.sorts.specs.Refusals.{refusal_number}
+use Rattle.sorts.proofs.Refusals.{one_number}
 
-pub called_unformed : (b : Book) (m k v s : List ℕ) (a : Answered) → (Lent b m k v → ⊥) → a ≡ refused_with b 9 0 → Called b m k v s a m k v
+pub called_unformed : (b : Book) (m k v s : List ℕ) (a : Answered) → (Lent b m k v → ⊥) → a ≡ refused_with b refusal.Form 0 → Called b m k v s a m k v
 called_unformed b m k v s a d e = record { decided = inr d; unformed = λ _. (e, refl, refl, refl); formed = λ f. absurd (d f) }
 
 pub called_formed : (b : Book) (m k v s : List ℕ) (r : Reading) (a : Answered) (n l w : List ℕ) → Lent b m k v → Reads s b.table r → a ≡ applied b m k r →
@@ -37,8 +41,8 @@ called_formed b m k v s r a n l w f R e h g p = record {
 }
 
 -- What the reader turned back is answered with its number and its bytes used, and the book stays.
-pub turned_back : (b : Book) (m l : List ℕ) (t : Table) (f : Found) (k : ℕ) → number_found f ≡ some k → applied_to b m l t f ≡ refused_with b k (used_found f)
+pub turned_back : (b : Book) (m l : List ℕ) (t : Table) (f : Found) (k : Refusal) → number_found f ≡ some (refusal_number k) → applied_to b m l t f ≡ refused_with b k (used_found f)
 turned_back b m l t (found.Asks q n) k e = let z : ◌≡◌ {A = ℕ} 0 1 = cc in absurd (omega arith)
-turned_back b m l t (found.Full n) k e = let d : 6 ≡ k = cc in ap (λ (j : ℕ). refused_with b j n) d
-turned_back b m l t (found.Unknown n) k e = let d : 7 ≡ k = cc in ap (λ (j : ℕ). refused_with b j n) d
-turned_back b m l t (found.Refused j n) k e = let d : j ≡ k = cc in ap (λ (i : ℕ). refused_with b i n) d
+turned_back b m l t (found.Full n) k e = let d : 6 ≡ refusal_number k = cc in ap (λ (j : Refusal). refused_with b j n) (one_number refusal.Full k d)
+turned_back b m l t (found.Unknown n) k e = let d : 7 ≡ refusal_number k = cc in ap (λ (j : Refusal). refused_with b j n) (one_number refusal.Absent k d)
+turned_back b m l t (found.Refused j n) k e = let d : refusal_number j ≡ refusal_number k = cc in ap (λ (i : Refusal). refused_with b i n) (one_number j k d)

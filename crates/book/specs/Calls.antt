@@ -2,6 +2,8 @@
 use Rattle.std.specs.Prelude.{ℕ, ◌≡◌, ◌⊎◌, List}
 use Rattle.sorts.specs.declared.Prin.{Prin}
 use Rattle.sorts.specs.declared.Status.TheVariants.{Issued}
+use Rattle.sorts.specs.declared.Refusal.TheVariants as refusal
+use Rattle.sorts.specs.declared.Refusal.{Refusal}
 use Rattle.rows.specs.Written.{Grant}
 use Rattle.rows.specs.Numbering.{place}
 use Rattle.rules.specs.Standing.{standing}
@@ -59,12 +61,12 @@ pub record Follows (M : State) (st : Step) (b : Book) (m k v : List ℕ) (r : An
   pub preview : w ≡ preview_after st.says M b v
   pub shows : Shows r.book st.next
   pub form : BookForm r.book n l
-  pub kept : (j : ℕ) → st.says ≡ refuses j → r.book ≡ b
+  pub kept : (j : Refusal) → st.says ≡ refuses j → r.book ≡ b
   pub untouched : (p : Prin) (g : Grant) → st.says ≡ previews p g → r.book ≡ b
 
 -- THE PROMISE of a call, whatever book, buffers and bytes: what is lent is in form or it is not; out of form it is refused with 9 and
 -- uses no byte; in form it follows the machine. Either way a refusal leaves the book and the buffers as they were.
 pub record Called (b : Book) (m k v s : List ℕ) (r : Answered) (n l w : List ℕ) : Type 0 where
   pub decided : Lent b m k v ⊎ (Lent b m k v → ⊥)
-  pub unformed : (Lent b m k v → ⊥) → (r ≡ record { book = b; answer = Refused 9; used = 0 }) × (n ≡ m) × (l ≡ k) × (w ≡ v)
+  pub unformed : (Lent b m k v → ⊥) → (r ≡ record { book = b; answer = Refused refusal.Form; used = 0 }) × (n ≡ m) × (l ≡ k) × (w ≡ v)
   pub formed : Lent b m k v → (M : State) → Shows b M → Follows M (step M s) b m k v r n l w

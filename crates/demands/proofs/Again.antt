@@ -11,6 +11,7 @@ use Rattle.sorts.specs.declared.Prin.{Prin}
 use Rattle.sorts.specs.Numbers.{all_marks}
 use Rattle.sorts.specs.declared.Status.{Status}
 use Rattle.sorts.specs.declared.Status.TheVariants.{Issued, Provisional}
+use Rattle.sorts.specs.declared.Refusal.TheVariants as refusal
 use Rattle.rows.specs.Written.{Grant}
 use Rattle.rows.specs.Numbering.{has, number}
 use Rattle.rows.proofs.Known.{numbered_known}
@@ -80,7 +81,7 @@ module _ {b : Book} {m k v s : List ℕ} {r : Answered} {n l w : List ℕ} {M : 
       numbered = known g t
 
       all : step M s ≡ record { next = M; says = changes; used = u }
-      all = ap (acted M (extent s)) e ∙ ap (λ (c : Bool). cond c (change (entered by g M.entries) (number g M.N) u) (refuse M 6 u)) (ap (λ (x : List Grant). fits x) numbered ∙ room) ∙
+      all = ap (acted M (extent s)) e ∙ ap (λ (c : Bool). cond c (change (entered by g M.entries) (number g M.N) u) (refuse M refusal.Full u)) (ap (λ (x : List Grant). fits x) numbered ∙ room) ∙
           (λ i. change (same i) (numbered i) u)
 
   pub enter_again : (by : Status) (g : Grant) (u : ℕ) → read_canonical s ≡ got (enter by g) u → stands M by g ≡ true → Idle

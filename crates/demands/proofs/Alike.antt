@@ -12,6 +12,8 @@ use Rattle.sorts.specs.declared.Prin.{Prin}
 use Rattle.sorts.specs.Numbers.{all_marks}
 use Rattle.sorts.specs.declared.Status.{Status}
 use Rattle.sorts.specs.declared.Status.TheVariants.{Issued, Provisional}
+use Rattle.sorts.specs.declared.Refusal.TheVariants as refusal
+use Rattle.sorts.specs.declared.Refusal.{Refusal}
 use Rattle.rows.specs.Written.{Grant, perm, issue}
 use Rattle.rows.specs.Numbering.{place, number, number_concl}
 use Rattle.ranges.specs.Bytes.{Outcome, got, refused}
@@ -84,7 +86,7 @@ acted_same : (M : State) (u v : ℕ) (o p : Outcome Record) → asked o ≡ aske
 acted_same M u v (got r m) (got q n) e = let d : r ≡ q = cc in subst (λ (x : Record). SameStep (act M r m) (act M x n)) d (act_same M r m n)
 acted_same M u v (got r m) (refused k) e = let z : ◌≡◌ {A = ℕ} 0 1 = cc in absurd (omega arith)
 acted_same M u v (refused j) (got r n) e = let z : ◌≡◌ {A = ℕ} 0 1 = cc in absurd (omega arith)
-acted_same M u v (refused j) (refused k) e = let d : j ≡ k = cc in subst (λ (i : ℕ). SameStep (refuse M j u) (refuse M i v)) d itself
+acted_same M u v (refused j) (refused k) e = let d : j ≡ k = cc in subst (λ (i : Refusal). SameStep (refuse M j u) (refuse M i v)) d itself
 
 step_same : (M : State) (s t : List ℕ) → Alike s t → SameStep (step M s) (step M t)
 unfolding step
@@ -92,7 +94,7 @@ step_same M s t e = acted_same M (extent s) (extent t) (read_canonical s) (read_
 
 feed_same : (M : State) (u v : ℕ) (s t : List ℕ) → u ≡ v → Alike s t → SameStep (feed M u s) (feed M v t)
 unfolding feed
-feed_same M u v s t d e = subst (λ (x : ℕ). SameStep (cond (eqb u all_marks) (step M s) (refuse M 9 0)) (cond (eqb x all_marks) (step M t) (refuse M 9 0))) d (picked (eqb u all_marks) _ _ _ _ (step_same M s t e) itself)
+feed_same M u v s t d e = subst (λ (x : ℕ). SameStep (cond (eqb u all_marks) (step M s) (refuse M refusal.Form 0)) (cond (eqb x all_marks) (step M t) (refuse M refusal.Form 0))) d (picked (eqb u all_marks) _ _ _ _ (step_same M s t e) itself)
 
 -- the machine, fed lists of records that are alike
 pub runs_alike : (M : State) (ss ts : List Fed) → AllAlike ss ts → runs M ss ≡ runs M ts

@@ -11,6 +11,9 @@ use lib.ListN.{get_or}
 use lib.Dec.{eqb}
 use Rattle.sorts.specs.declared.Status.TheVariants.{Issued, Provisional}
 use Rattle.sorts.specs.declared.Prin.{Prin}
+use Rattle.sorts.specs.declared.Refusal.TheVariants as refusal
+use Rattle.sorts.specs.declared.Refusal.{Refusal}
+use Rattle.sorts.specs.Refusals.{refusal_number}
 use Rattle.rows.specs.Written.{Grant}
 use Rattle.rows.specs.Numbering.{number, number_concl}
 use Rattle.rows.proofs.Bytes.{no_true}
@@ -43,36 +46,40 @@ flat : {A P Q : ℕ → Type 0} → ((c : ℕ) × A c × (P c × Q c)) ↔ ((c :
 flat = (λ h. (h.0, h.1, h.2.0, h.2.1), λ h. (h.0, h.1, (h.2, h.3)))
 
 -- the answers with a number are the refusals
-number_is : (a : Answer) (k : ℕ) → ((worth a).number ≡ some k) ↔ (a ≡ Refused k)
-number_is a k = (go a, λ e. ap (λ (x : Answer). (worth x).number) e)
+number_is : (a : Answer) (k : ℕ) → ((worth a).number ≡ some k) ↔ ((i : Refusal) × (a ≡ Refused i) × (refusal_number i ≡ k))
+number_is a k = (go a, λ h. ap (λ (x : Answer). (worth x).number) h.1 ∙ ap some h.2)
   where
-    go : (x : Answer) → (worth x).number ≡ some k → x ≡ Refused k
+    go : (x : Answer) → (worth x).number ≡ some k → (i : Refusal) × (x ≡ Refused i) × (refusal_number i ≡ k)
     go Permitted e = let z : ◌≡◌ {A = ℕ} 0 1 = cc in absurd (omega arith)
     go Open e = let z : ◌≡◌ {A = ℕ} 0 1 = cc in absurd (omega arith)
     go NotPermitted e = let z : ◌≡◌ {A = ℕ} 0 1 = cc in absurd (omega arith)
     go (Changed c) e = let z : ◌≡◌ {A = ℕ} 0 1 = cc in absurd (omega arith)
     go (Previewed c) e = let z : ◌≡◌ {A = ℕ} 0 1 = cc in absurd (omega arith)
-    go (Refused j) e = let d : j ≡ k = cc in ap Refused d
+    go (Refused j) e = let d : refusal_number j ≡ k = cc in (j, refl, d)
 
 -- what the machine refuses, by the record
 
 module _ (M : State) (k : ℕ) where
-  -- an accepted step, or a refusal with the number j
-  two : (X : Step) → ((i : ℕ) → X.says ≡ refuses i → ⊥) → (j n : ℕ) (b : Bool) → ((cond b X (refuse M j n)).says ≡ refuses k) ↔ ((b ≡ false) × (k ≡ j))
-  two X f j n true = (λ e. absurd (f k e), λ h. absurd (no_true (sym h.0)))
-  two X f j n false = (λ e. let d : j ≡ k = cc in (refl, sym d), λ h. ap refuses (sym h.1))
+  -- the number k is said
+  abbrev Says : Verdict → Type 0
+  Says v = (i : Refusal) × (v ≡ refuses i) × (refusal_number i ≡ k)
 
-  accepts : (i : ℕ) → changes ≡ refuses i → ⊥
+  -- an accepted step, or the refusal j
+  two : (X : Step) → ((i : Refusal) → X.says ≡ refuses i → ⊥) → (j : Refusal) (n : ℕ) (b : Bool) → Says (cond b X (refuse M j n)).says ↔ ((b ≡ false) × (k ≡ refusal_number j))
+  two X f j n true = (λ e. absurd (f e.0 e.1), λ h. absurd (no_true (sym h.0)))
+  two X f j n false = (λ e. let z = e.1 in let d : j ≡ e.0 = cc in (refl, sym e.2 ∙ ap refusal_number (sym d)), λ h. (j, refl, sym h.1))
+
+  accepts : (i : Refusal) → changes ≡ refuses i → ⊥
   accepts i e = let z : ◌≡◌ {A = ℕ} 0 1 = cc in omega arith
 
-  turned : (u : ℕ) (o : Outcome Record) → ((acted M u o).says ≡ refuses k) ↔ Turned M o k
+  turned : (u : ℕ) (o : Outcome Record) → Says (acted M u o).says ↔ Turned M o k
   unfolding act
-  turned u (got (enter by g) n) = two _ accepts 6 n (fits (number g M.N))
-  turned u (got (remove by g) n) = two _ accepts 7 n (there by g M.entries)
-  turned u (got (confirm p g) n) = two _ accepts 7 n (stands M (Provisional p) g)
-  turned u (got (preview p g) n) = two _ (λ i e. let z : ◌≡◌ {A = ℕ} 0 1 = cc in omega arith) 7 n (there (Issued p) g M.entries)
-  turned u (got (query c) n) = two _ (λ i e. let z : ◌≡◌ {A = ℕ} 0 1 = cc in omega arith) 6 n (fits (number_concl c M.N))
-  turned u (refused j) = (λ e. let d : j ≡ k = cc in d, λ h. ap refuses h)
+  turned u (got (enter by g) n) = two _ accepts refusal.Full n (fits (number g M.N))
+  turned u (got (remove by g) n) = two _ accepts refusal.Absent n (there by g M.entries)
+  turned u (got (confirm p g) n) = two _ accepts refusal.Absent n (stands M (Provisional p) g)
+  turned u (got (preview p g) n) = two _ (λ i e. let z : ◌≡◌ {A = ℕ} 0 1 = cc in omega arith) refusal.Absent n (there (Issued p) g M.entries)
+  turned u (got (query c) n) = two _ (λ i e. let z : ◌≡◌ {A = ℕ} 0 1 = cc in omega arith) refusal.Full n (fits (number_concl c M.N))
+  turned u (refused j) = (λ e. let z = e.1 in let d : j ≡ e.0 = cc in ap refusal_number d ∙ e.2, λ h. (j, refl, h))
 
   -- a number that is said is 1 to 7, or 10
   turned_range : (s : List ℕ) (o : Outcome Record) → read_canonical s ≡ o → Turned M o k → ((1 ≤ k) × (k ≤ 7)) ⊎ (k ≡ 10)
@@ -81,14 +88,14 @@ module _ (M : State) (k : ℕ) where
   turned_range s (got (confirm p g) n) e h = inl (omega (arith, h.1), omega (arith, h.1))
   turned_range s (got (preview p g) n) e h = inl (omega (arith, h.1), omega (arith, h.1))
   turned_range s (got (query c) n) e h = inl (omega (arith, h.1), omega (arith, h.1))
-  turned_range s (refused j) e h = ⊎_elim (λ f. inl (omega (arith, h, f.0), omega (arith, h, f.1))) (λ f. inr (sym h ∙ f)) (fault_range s j (canonical_refused s j e))
+  turned_range s (refused j) e h = ⊎_elim (λ f. inl (omega (arith, h, f.0), omega (arith, h, f.1))) (λ f. inr (sym h ∙ ap refusal_number f)) (fault_range s j (canonical_refused s j e))
 
 -- what the answer says, by the verdict
 
 abbrev Net : Answer → Type 0
 Net a = (k : Statements) → (change_in k (worth a).counts).net ≡ pos (change_in k (worth a).counts).gained -ℤ pos (change_in k (worth a).counts).lost
 
-refused_net : (j : ℕ) → Net (Refused j)
+refused_net : (j : Refusal) → Net (Refused j)
 refused_net j truths = refl
 refused_net j sayings = refl
 
@@ -136,7 +143,7 @@ module _ (m k n w : List ℕ) where
   answer_net (asks c) j = asked_net (eqb (get_or m c 0) 1) (eqb (get_or k c 0) 1) j
   answer_net (refuses i) j = refused_net i j
 
-  answer_refused : (v : Verdict) (j : ℕ) → (answer_of v m k n w ≡ Refused j) ↔ (v ≡ refuses j)
+  answer_refused : (v : Verdict) (j : Refusal) → (answer_of v m k n w ≡ Refused j) ↔ (v ≡ refuses j)
   unfolding answer_of
   answer_refused changes j = (λ e. let z : ◌≡◌ {A = ℕ} 0 1 = cc in absurd (omega arith), λ e. let z : ◌≡◌ {A = ℕ} 0 1 = cc in absurd (omega arith))
   answer_refused (previews p g) j = (λ e. let z : ◌≡◌ {A = ℕ} 0 1 = cc in absurd (omega arith), λ e. let z : ◌≡◌ {A = ℕ} 0 1 = cc in absurd (omega arith))
@@ -163,8 +170,11 @@ module _ {M : State} {b : Book} {m k v : List ℕ} (s : List ℕ) {r : Answered}
   as_answer a = (λ e. sym F.answer ∙ e, λ e. F.answer ∙ e)
 
   -- a number that is said is the machine's
-  as_number : (j : ℕ) → ((worth r.answer).number ≡ some j) ↔ ((step M s).says ≡ refuses j)
-  as_number j = both_ways (number_is r.answer j) (both_ways (as_answer (Refused j)) (answer_refused m k n w (step M s).says j))
+  as_number : (j : ℕ) → ((worth r.answer).number ≡ some j) ↔ Says M j (step M s).says
+  as_number j = both_ways (number_is r.answer j) (λ h. (h.0, (said h.0).0 h.1, h.2), λ h. (h.0, (said h.0).1 h.1, h.2))
+    where
+      said : (i : Refusal) → (r.answer ≡ Refused i) ↔ ((step M s).says ≡ refuses i)
+      said i = both_ways (as_answer (Refused i)) (answer_refused m k n w (step M s).says i)
 
   as_previewed : (x : Counts) → (r.answer ≡ Previewed x) ↔ ((p : Prin) × (g : Grant) × ((step M s).says ≡ previews p g) × (x ≡ counts_of m w))
   as_previewed x = both_ways (as_answer (Previewed x)) (answer_previewed m k n w (step M s).says x)
@@ -182,7 +192,7 @@ module _ {M : State} {b : Book} {m k v : List ℕ} (s : List ℕ) {r : Answered}
     preview = F.preview;
     kept = λ j e.
         let y = (as_number j).0 e in
-        (F.kept j y, F.marks ∙ ap (λ (z : Verdict). marks_after z r.book m) y, F.second ∙ ap (λ (z : Verdict). second_after z r.book k) y, F.preview ∙ ap (λ (z : Verdict). preview_after z M b v) y);
+        (F.kept y.0 y.1, F.marks ∙ ap (λ (z : Verdict). marks_after z r.book m) y.1, F.second ∙ ap (λ (z : Verdict). second_after z r.book k) y.1, F.preview ∙ ap (λ (z : Verdict). preview_after z M b v) y.1);
     untouched = λ x e.
         let y = (as_previewed x).0 e in
         (F.untouched y.0 y.1 y.2, F.marks ∙ ap (λ (z : Verdict). marks_after z r.book m) y.2, F.second ∙ ap (λ (z : Verdict). second_after z r.book k) y.2);
@@ -213,4 +223,4 @@ demand_1 b m k v s r n l w C = record {
 
     net_by : Lent b m k v ⊎ (Lent b m k v → ⊥) → Net r.answer
     net_by (inl f) = let x = shows_some b m k f.book in subst Net (sym (C.formed f x.0 x.1).answer) (answer_net m k n w (step x.0 s).says)
-    net_by (inr d) = subst Net (sym (ap (λ (x : Answered). x.answer) (C.unformed d).0)) (refused_net 9)
+    net_by (inr d) = subst Net (sym (ap (λ (x : Answered). x.answer) (C.unformed d).0)) (refused_net refusal.Form)

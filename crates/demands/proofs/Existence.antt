@@ -5,6 +5,7 @@ use mathlib.Core.Path.{◌≡◌, refl}
 use mathlib.Core.List.{List, [], ◌∷◌, map}
 use lib.ListN.{length, length-replicate}
 use Rattle.sorts.specs.Numbers.{all_marks}
+use Rattle.sorts.specs.declared.Refusal.TheVariants as refusal
 use Rattle.reader.specs.Inner.OneRecord.{num_record}
 use Rattle.reader.proofs.Record.{reads_within}
 use Rattle.bookform.specs.declared.Book.{Book}
@@ -26,8 +27,8 @@ pub call_some : (b : Book) (m k v s : List ℕ) → Lent b m k v →
 call_some b m k v s f = called_formed b m k v s (num_record s b.table) _ _ _ _ f (reads_within s b.table _ f.book.table.count refl) refl refl refl refl
 
 -- and on what is not it is refused
-pub call_unformed : (b : Book) (m k v s : List ℕ) → (Lent b m k v → ⊥) → Called b m k v s (refused_with b 9 0) m k v
-call_unformed b m k v s d = called_unformed b m k v s (refused_with b 9 0) d refl
+pub call_unformed : (b : Book) (m k v s : List ℕ) → (Lent b m k v → ⊥) → Called b m k v s (refused_with b refusal.Form 0) m k v
+call_unformed b m k v s d = called_unformed b m k v s (refused_with b refusal.Form 0) d refl
 
 -- with a preview buffer of zeroes
 pub blank_preview : length fresh_marks ≡ all_marks

@@ -5,6 +5,7 @@ use mathlib.Core.Path.{◌≡◌, refl, ap, subst, ◌∙◌}
 use mathlib.Core.List.{List, [], ◌∷◌, map}
 use Rattle.sorts.specs.Numbers.{all_marks}
 use Rattle.sorts.specs.declared.Status.TheVariants.{Trusted}
+use Rattle.sorts.specs.declared.Refusal.TheVariants as refusal
 use Rattle.rows.specs.Written.{Grant, grant, none, property, perm, issue, written, same_bytes, same_written}
 use Rattle.rows.specs.Numbering.{place, has, add, number}
 use Rattle.ranges.specs.Bytes.{byte_at, upto, principal, pack, tag, header}
@@ -40,7 +41,7 @@ opened : State → List (List ℕ) → List Verdict
 unfolding byte_at upto principal pack tag header read_property read_packed read_issue read_concl read_conds read_with read_grant read_entry read_licence read_query read_content read_whole kind_with read_mark frame extent read_record canon read_canonical written same_bytes same_written place has add number member insert delete act step feed runs verdicts
 opened M ss = verdicts M ss
 
-pub journal_verdicts : verdicts start journal ≡ changes ∷ changes ∷ asks 290 ∷ changes ∷ asks 290 ∷ changes ∷ refuses 7 ∷ []
+pub journal_verdicts : verdicts start journal ≡ changes ∷ changes ∷ asks 290 ∷ changes ∷ asks 290 ∷ changes ∷ refuses refusal.Absent ∷ []
 unfolding opened
 journal_verdicts = refl
 

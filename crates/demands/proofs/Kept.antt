@@ -7,6 +7,7 @@ use native.Mathlib.Omega.{arith}
 use lib.ListN.{length}
 use lib.Dec.{eqb}
 use Rattle.sorts.specs.Numbers.{all_marks}
+use Rattle.sorts.specs.declared.Refusal.TheVariants as refusal
 use Rattle.rows.specs.Written.{Grant, same_written}
 use Rattle.rows.specs.Numbering.{place, has}
 use Rattle.rows.specs.Form.{rows_out}
@@ -40,7 +41,7 @@ feed_grows : (M : State) (u : ℕ) (s : List ℕ) → Ext M.N (feed M u s).next.
 unfolding feed
 feed_grows M u s = go (eqb u all_marks)
   where
-    go : (t : Bool) → Ext M.N (cond t (step M s) (refuse M 9 0)).next.N
+    go : (t : Bool) → Ext M.N (cond t (step M s) (refuse M refusal.Form 0)).next.N
     go true = step_grows M s
     go false = ext_refl M.N
 

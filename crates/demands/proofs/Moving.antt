@@ -10,6 +10,8 @@ use Rattle.sorts.specs.declared.Prin.{Prin}
 use Rattle.sorts.specs.Numbers.{all_marks}
 use Rattle.sorts.specs.declared.Status.{Status}
 use Rattle.sorts.specs.declared.Status.TheVariants.{Trusted, Issued, Provisional}
+use Rattle.sorts.specs.declared.Refusal.TheVariants as refusal
+use Rattle.sorts.specs.declared.Refusal.{Refusal}
 use Rattle.rows.specs.Written.{Grant}
 use Rattle.rows.specs.Numbering.{number, number_concl}
 use Rattle.rows.proofs.Appended.{Ext, ext_refl, number_ext, concl_more}
@@ -114,15 +116,15 @@ removed_less (Issued p) g E = λ v by h e.
 removed_less (Provisional p) g E = deleted_less (entry (Provisional p) g) E
 
 module _ (M : State) where
-  up_or : (M' : State) (k n n' : ℕ) (v : Verdict) → Up M M' → (c : Bool) → Up M (cond c (record { next = M'; says = v; used = n }) (refuse M k n')).next
+  up_or : (M' : State) (k : Refusal) (n n' : ℕ) (v : Verdict) → Up M M' → (c : Bool) → Up M (cond c (record { next = M'; says = v; used = n }) (refuse M k n')).next
   up_or M' k n n' v u true = u
   up_or M' k n n' v u false = record { grows = λ w by g e. e; ext = ext_refl M.N }
 
-  down_or : (M' : State) (k n n' : ℕ) (v : Verdict) → Down M M' → (c : Bool) → Down M (cond c (record { next = M'; says = v; used = n }) (refuse M k n')).next
+  down_or : (M' : State) (k : Refusal) (n n' : ℕ) (v : Verdict) → Down M M' → (c : Bool) → Down M (cond c (record { next = M'; says = v; used = n }) (refuse M k n')).next
   down_or M' k n n' v d true = d
   down_or M' k n n' v d false = record { shrinks = λ w by g e. e; ext = ext_refl M.N }
 
-  still_or : (M' : State) (k n n' : ℕ) (v : Verdict) → Still M M' → (c : Bool) → Still M (cond c (record { next = M'; says = v; used = n }) (refuse M k n')).next
+  still_or : (M' : State) (k : Refusal) (n n' : ℕ) (v : Verdict) → Still M M' → (c : Bool) → Still M (cond c (record { next = M'; says = v; used = n }) (refuse M k n')).next
   still_or M' k n n' v d true = d
   still_or M' k n n' v d false = same_state M
 
@@ -137,30 +139,30 @@ module _ (M : State) where
   pub moved : (o : Outcome Record) → Moved o
   unfolding act
   moved (got (enter by g) n) =
-      up_or (record { entries = entered by g M.entries; N = number g M.N }) 6 n n changes
+      up_or (record { entries = entered by g M.entries; N = number g M.N }) refusal.Full n n changes
       (record { grows = entered_more by g M.entries; ext = number_ext g M.N }) (fits (number g M.N))
   moved (got (remove by g) n) =
-      down_or (record { entries = removed by g M.entries; N = M.N }) 7 n n changes
+      down_or (record { entries = removed by g M.entries; N = M.N }) refusal.Absent n n changes
       (record { shrinks = removed_less by g M.entries; ext = ext_refl M.N }) (there by g M.entries)
   moved (got (confirm p g) n) =
-      up_or (record { entries = entered (Issued p) g M.entries; N = M.N }) 7 n n changes
+      up_or (record { entries = entered (Issued p) g M.entries; N = M.N }) refusal.Absent n n changes
       (record { grows = entered_more (Issued p) g M.entries; ext = ext_refl M.N }) (stands M (Provisional p) g)
-  moved (got (preview p g) n) = still_or M 7 n n (previews p g) (same_state M) (there (Issued p) g M.entries)
+  moved (got (preview p g) n) = still_or M refusal.Absent n n (previews p g) (same_state M) (there (Issued p) g M.entries)
   moved (got (query c) n) =
-      still_or (record { entries = M.entries; N = number_concl c M.N }) 6 n n _
+      still_or (record { entries = M.entries; N = number_concl c M.N }) refusal.Full n n _
       (record { grows = λ v by g e. e; shrinks = λ v by g e. e; ext = concl_more c M.N }) (fits (number_concl c M.N))
   moved (refused k) = same_state M
 
   -- a record that asks is a query
-  not_asking : (X Y : Step) (c : ℕ) {A : Type 0} → X.says ≡ changes → {k : ℕ} → Y.says ≡ refuses k → (b : Bool) → (cond b X Y).says ≡ asks c → A
+  not_asking : (X Y : Step) (c : ℕ) {A : Type 0} → X.says ≡ changes → {k : Refusal} → Y.says ≡ refuses k → (b : Bool) → (cond b X Y).says ≡ asks c → A
   not_asking X Y c x {k} y true e = let d : changes ≡ asks c = sym x ∙ e in let z : ◌≡◌ {A = ℕ} 0 1 = cc in absurd (omega arith)
   not_asking X Y c x {k} y false e = let d : refuses k ≡ asks c = sym y ∙ e in let z : ◌≡◌ {A = ℕ} 0 1 = cc in absurd (omega arith)
 
   pub asks_still : (u : ℕ) (o : Outcome Record) (c : ℕ) → (acted M u o).says ≡ asks c → Still M (acted M u o).next
   unfolding act
-  asks_still u (got (enter by g) n) c e = not_asking _ (refuse M 6 n) c refl refl (fits (number g M.N)) e
-  asks_still u (got (remove by g) n) c e = not_asking _ (refuse M 7 n) c refl refl (there by g M.entries) e
-  asks_still u (got (confirm p g) n) c e = not_asking _ (refuse M 7 n) c refl refl (stands M (Provisional p) g) e
+  asks_still u (got (enter by g) n) c e = not_asking _ (refuse M refusal.Full n) c refl refl (fits (number g M.N)) e
+  asks_still u (got (remove by g) n) c e = not_asking _ (refuse M refusal.Absent n) c refl refl (there by g M.entries) e
+  asks_still u (got (confirm p g) n) c e = not_asking _ (refuse M refusal.Absent n) c refl refl (stands M (Provisional p) g) e
   asks_still u (got (preview p g) n) c e = moved (got (preview p g) n)
   asks_still u (got (query q) n) c e = moved (got (query q) n)
   asks_still u (refused k) c e = same_state M
@@ -170,6 +172,6 @@ module _ (M : State) where
   unfolding feed step
   feed_asks u s c = go (eqb u all_marks)
     where
-      go : (t : Bool) → (cond t (acted M (extent s) (read_canonical s)) (refuse M 9 0)).says ≡ asks c → Still M (cond t (acted M (extent s) (read_canonical s)) (refuse M 9 0)).next
+      go : (t : Bool) → (cond t (acted M (extent s) (read_canonical s)) (refuse M refusal.Form 0)).says ≡ asks c → Still M (cond t (acted M (extent s) (read_canonical s)) (refuse M refusal.Form 0)).next
       go true e = asks_still (extent s) (read_canonical s) c e
       go false e = same_state M

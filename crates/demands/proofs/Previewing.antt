@@ -11,6 +11,8 @@ use Rattle.sorts.specs.Numbers.{all_marks}
 use Rattle.sorts.specs.declared.Prin.{Prin}
 use Rattle.sorts.specs.declared.GrantNo.{GrantNo}
 use Rattle.sorts.specs.declared.Status.TheVariants.{Issued}
+use Rattle.sorts.specs.declared.Refusal.TheVariants as refusal
+use Rattle.sorts.specs.declared.Refusal.{Refusal}
 use Rattle.rows.specs.declared.Table.{Table}
 use Rattle.rows.specs.Written.{Grant}
 use Rattle.rows.specs.Numbering.{place, has}
@@ -51,11 +53,11 @@ use Rattle.demands.proofs.Unique.{no_choice}
 
 -- what the reader finds of the two: the same fault, the same lack of a number, or the same licence
 data Same : Found → Found → Type 0 where
-  faulty : (j n : ℕ) → Same (found.Refused j n) (found.Refused j n)
+  faulty : (j : Refusal) (n : ℕ) → Same (found.Refused j n) (found.Refused j n)
   unknown : (n : ℕ) → Same (found.Unknown n) (found.Unknown n)
   licensed : (p : Prin) (g : GrantNo) (n : ℕ) → Same (found.Asks (Preview p g) n) (found.Asks (Remove (Issued p) g) n)
 
-same_refused : (j : ℕ) (b : Book) (n : ℕ) (w m : List ℕ) → Foretold (refused_with b j n) (refused_with b j n) w m
+same_refused : (j : Refusal) (b : Book) (n : ℕ) (w m : List ℕ) → Foretold (refused_with b j n) (refused_with b j n) w m
 same_refused j b n w m = record {
   refusals = λ i. (λ e. e, λ e. e);
   counts = λ x. (λ e. let z : ◌≡◌ {A = ℕ} 0 1 = cc in absurd (omega arith), λ e. let z : ◌≡◌ {A = ℕ} 0 1 = cc in absurd (omega arith));
@@ -80,13 +82,13 @@ shown_removed b m b' n = record {
 module _ (b : Book) (m k v : List ℕ) (t t' : Table) where
   found_same : (f g : Found) → Same f g → Foretold (applied_to b m k t f) (applied_to b m k t' g) (preview_applied_to b v f) (marks_applied_to firm_marks b m t' g)
   found_same f g (faulty j n) = same_refused j b n v m
-  found_same f g (unknown n) = same_refused 7 b n v m
+  found_same f g (unknown n) = same_refused refusal.Absent b n v m
   found_same f g (licensed p num n) = go (there_flags (Issued p) num.0 b.flags)
     where
-      go : (c : Bool) → Foretold (cond c (previewed_by b (removed_book b (Issued p) num.0) m n) (refused_with b 7 n)) (cond c (changed_to (removed_book b (Issued p) num.0) m n) (refused_with b 7 n))
+      go : (c : Bool) → Foretold (cond c (previewed_by b (removed_book b (Issued p) num.0) m n) (refused_with b refusal.Absent n)) (cond c (changed_to (removed_book b (Issued p) num.0) m n) (refused_with b refusal.Absent n))
           (cond c (firm_marks (removed_book b (Issued p) num.0)) v) (cond c (firm_marks (removed_book b (Issued p) num.0)) m)
       go true = shown_removed b m (removed_book b (Issued p) num.0) n
-      go false = same_refused 7 b n v m
+      go false = same_refused refusal.Absent b n v m
 
 reads_same : (N : List Grant) (u : ℕ) (o : Outcome Record) → Previewing o → Same (found_of N u o) (found_of N u (withdrawn o))
 unfolding found_of
@@ -126,7 +128,7 @@ module _ (b : Book) (m k v c : List ℕ) (r q : Answered) (n l w n' l' w' : List
       by (inr d) =
           let x = C.unformed d in
           let y = D.unformed d in
-          subst (λ (z : Answered). Foretold z q w n') (sym x.0) (subst (λ (z : Answered). Foretold (refused_with b 9 0) z w n') (sym y.0) (same_refused 9 b 0 w n'))
+          subst (λ (z : Answered). Foretold z q w n') (sym x.0) (subst (λ (z : Answered). Foretold (refused_with b refusal.Form 0) z w n') (sym y.0) (same_refused refusal.Form b 0 w n'))
 
 -- ON A BOOK THAT WAS REACHED A PREVIEW NEVER GAINS, of truths or of sayings.
 withdrawal_way : (o : Outcome Record) → Previewing o → (c : Call) → OneWay (withdrawn o) c → NoGain c
@@ -150,6 +152,6 @@ preview_no_gain {b} {m} {k} {M} R v c r n l w C x e j = go (ℕ_discrete (length
         sym (ap (λ (a : Answer). (reported j a).gained) ((F.counts x).0 e)) ∙ no_gain_of R v c _ _ _ _ D d j
     go (no d) =
         let h = ap (λ (a : Answered). a.answer) (C.unformed (λ f. d f.preview)).0 in
-        let z : Refused 9 ≡ Previewed x = sym h ∙ e in
+        let z : Refused refusal.Form ≡ Previewed x = sym h ∙ e in
         let y : ◌≡◌ {A = ℕ} 0 1 = cc in
         absurd (omega arith)

@@ -13,6 +13,8 @@ use Rattle.marks.specs.declared.Counts.{Counts}
 use Rattle.sorts.specs.declared.Status.TheVariants.{Trusted, Issued, Provisional}
 use Rattle.sorts.specs.Numbers.{all_marks}
 use Rattle.sorts.specs.Flags.{all_flags, flag_place}
+use Rattle.sorts.specs.declared.Refusal.TheVariants as refusal
+use Rattle.sorts.specs.declared.Refusal.{Refusal}
 use Rattle.rows.specs.Form.{rows_out}
 use Rattle.rows.proofs.Shown.{blank_shown, shown_form}
 use Rattle.rows.proofs.Bytes.{no_true}
@@ -135,7 +137,7 @@ uncounted_no j m k c = go (eqb (get_or m c 0) 1) (eqb (get_or k c 0) 1)
     go false true = open_no j
     go false false = denied_no j
 
-refused_no : (j : Statements) (i : ℕ) → Uncounted j (Refused i)
+refused_no : (j : Statements) (i : Refusal) → Uncounted j (Refused i)
 refused_no truths i = (refl, refl)
 refused_no sayings i = (refl, refl)
 
@@ -147,11 +149,11 @@ previewed_no sayings c = (refl, refl)
 
 pub fed_whole : (M : State) (u : ℕ) (s : List ℕ) → u ≡ all_marks → feed M u s ≡ step M s
 unfolding feed
-fed_whole M u s e = ap (λ (c : Bool). cond c (step M s) (refuse M 9 0)) (eq-eqb u all_marks e)
+fed_whole M u s e = ap (λ (c : Bool). cond c (step M s) (refuse M refusal.Form 0)) (eq-eqb u all_marks e)
 
-pub fed_other : (M : State) (u : ℕ) (s : List ℕ) → (u ≡ all_marks → ⊥) → feed M u s ≡ refuse M 9 0
+pub fed_other : (M : State) (u : ℕ) (s : List ℕ) → (u ≡ all_marks → ⊥) → feed M u s ≡ refuse M refusal.Form 0
 unfolding feed
-fed_other M u s d = ap (λ (c : Bool). cond c (step M s) (refuse M 9 0)) (ne_eqb u all_marks d)
+fed_other M u s d = ap (λ (c : Bool). cond c (step M s) (refuse M refusal.Form 0)) (ne_eqb u all_marks d)
 
 -- one call more
 
@@ -161,7 +163,7 @@ after_in firm w b m = marks_after w b m
 after_in both w b m = second_after w b m
 
 module _ {b : Book} {m k v s : List ℕ} {r : Answered} {n l w : List ℕ} {M : State} (R : Reached b m k M) (C : Called b m k v s r n l w) where
-  refused_nine : (length v ≡ all_marks → ⊥) → Follows M (refuse M 9 0) b m k v r n l w
+  refused_nine : (length v ≡ all_marks → ⊥) → Follows M (refuse M refusal.Form 0) b m k v r n l w
   unfolding answer_of marks_after second_after preview_after
   refused_nine d =
       let h = C.unformed (λ f. d f.preview) in

@@ -9,6 +9,8 @@ use Rattle.reader.specs.Records.{read_canonical}
 use Rattle.contents.specs.Requests.{fits}
 use Rattle.sorts.specs.declared.Prin.{Prin}
 use Rattle.sorts.specs.declared.Status.TheVariants.{Issued, Provisional}
+use Rattle.sorts.specs.declared.Refusal.TheVariants as refusal
+use Rattle.sorts.specs.Refusals.{refusal_number}
 use Rattle.bookform.specs.declared.Book.{Book}
 use Rattle.answer.specs.declared.Answer.{Answer}
 use Rattle.answer.specs.declared.Answer.TheVariants.{Permitted, Open, NotPermitted, Changed, Previewed, Refused}
@@ -88,7 +90,7 @@ pub record Demand3 (cs : List Call) (b : Book) (m k : List ℕ) : Type 1 where
 -- number; 6 "the grants that the record would number and those in N exceed 64"; 7 "the grant or licence to remove doesn't stand",
 -- of either kind, and "CF of a licence that isn't provisional meets refusal 7".
 abbrev pub Turned : State → Outcome Record → ℕ → Type 0
-Turned M (refused j) k = j ≡ k
+Turned M (refused j) k = refusal_number j ≡ k
 Turned M (got (enter by g) n) k = (fits (number g M.N) ≡ false) × (k ≡ 6)
 Turned M (got (remove by g) n) k = (there by g M.entries ≡ false) × (k ≡ 7)
 Turned M (got (confirm p g) n) k = (stands M (Provisional p) g ≡ false) × (k ≡ 7)
@@ -115,7 +117,7 @@ pub record Answers (M : State) (b : Book) (m k v s : List ℕ) (r : Answered) (n
 -- of form", or the preview buffer is, exactly then; 8 is never said. Document 02, 7: "Demand 1's nine refusals grow by this". Every book in form shows some state. Each net "is gained less
 -- lost".
 pub record Demand1 (b : Book) (m k v s : List ℕ) (r : Answered) (n l w : List ℕ) : Type 0 where
-  pub unformed : (Lent b m k v → ⊥) → (r ≡ record { book = b; answer = Refused 9; used = 0 }) × (n ≡ m) × (l ≡ k) × (w ≡ v)
+  pub unformed : (Lent b m k v → ⊥) → (r ≡ record { book = b; answer = Refused refusal.Form; used = 0 }) × (n ≡ m) × (l ≡ k) × (w ≡ v)
   pub formed : Lent b m k v → (M : State) → Shows b M → Answers M b m k v s r n l w
   pub shown : BookForm b m k → (M : State) × Shows b M
   pub nine : ((worth r.answer).number ≡ some 9) ↔ (Lent b m k v → ⊥)

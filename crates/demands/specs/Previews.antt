@@ -5,6 +5,7 @@ use Rattle.frames.specs.Frames.{letters_of}
 use Rattle.marks.specs.declared.Counts.{Counts}
 use Rattle.answer.specs.declared.Answer.TheVariants.{Changed, Previewed, Refused}
 use Rattle.answer.specs.declared.Answered.{Answered}
+use Rattle.sorts.specs.declared.Refusal.{Refusal}
 
 -- The letters pv and wd, and the same bytes after them.
 abbrev pub preview_of : List ℕ → List ℕ
@@ -17,7 +18,7 @@ withdrawal_of s = letters_of Wd ++ s
 -- preview that answered r and left w in the preview buffer, and a withdrawal, on the same book, that answered q and left n in the first
 -- buffer.
 pub record Foretold (r q : Answered) (w n : List ℕ) : Type 0 where
-  pub refusals : (j : ℕ) → (r.answer ≡ Refused j) ↔ (q.answer ≡ Refused j)
+  pub refusals : (j : Refusal) → (r.answer ≡ Refused j) ↔ (q.answer ≡ Refused j)
   pub counts : (x : Counts) → (r.answer ≡ Previewed x) ↔ (q.answer ≡ Changed x)
   pub marks : (x : Counts) → r.answer ≡ Previewed x → w ≡ n
   pub used : r.used ≡ q.used

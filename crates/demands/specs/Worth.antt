@@ -7,6 +7,7 @@ use Rattle.answer.specs.declared.Answer.{Answer}
 use Rattle.answer.specs.declared.Answer.TheVariants.{Permitted, Open, NotPermitted, Changed, Previewed, Refused}
 use Rattle.marks.specs.Counts.{Statements, change_in}
 use Rattle.book.specs.Chains.{Call}
+use Rattle.sorts.specs.Refusals.{refusal_number}
 
 -- "If an answer is an enum, a definition gives this paper's number and values for each of its cases." The number of a refusal, and
 -- the counts: of truths and of sayings gained, lost and net. "QU .. has counts 0", "Every refusal has counts 0".
@@ -29,7 +30,7 @@ worth Open = uncounted none
 worth NotPermitted = uncounted none
 worth (Changed c) = record { number = none; counts = c }
 worth (Previewed c) = record { number = none; counts = c }
-worth (Refused k) = uncounted (some k)
+worth (Refused k) = uncounted (some (refusal_number k))
 
 -- Document 02, 6: of a preview "these counts enter no sum over a list". The counts of what changed.
 abbrev pub counted : Answer → Counts

@@ -16,6 +16,8 @@ use Rattle.lines.specs.declared.Said.TheVariants as says
 use Rattle.lines.specs.Pieces.{said_pieces, line_pieces, Carries}
 use Rattle.lines.proofs.Joining.{each_joined, joined_cons, joined_none}
 use Rattle.journal.specs.Lines.{letters_in, said, line_of, end_of, refused_line, Says}
+use Rattle.sorts.specs.declared.Refusal.{Refusal}
+use Rattle.sorts.specs.Refusals.{refusal_number}
 
 -- what is said of an answer
 pub changed_joined : (s : List ℕ) (k : Kind) (c : Counts) → letters_of k ≡ letters_in s → Says s (answer.Changed c) (says.Changed k c)
@@ -39,7 +41,7 @@ pub not_permitted_joined : (s : List ℕ) (k : Kind) → letters_of k ≡ letter
 unfolding said said_pieces
 not_permitted_joined s k e = simp (joined_cons, joined_none, e, append_assoc)
 
-pub refusal_joined : (s : List ℕ) (k : ℕ) → Says s (answer.Refused k) (says.Refused k)
+pub refusal_joined : (s : List ℕ) (k : Refusal) → Says s (answer.Refused k) (says.Refused k)
 unfolding said said_pieces
 refusal_joined s k = simp (joined_cons, each_joined, joined_none, append_assoc)
 
@@ -70,6 +72,6 @@ pub end_joined : (n k : ℕ) (m : List ℕ) → k ≡ ones m → Carries (line.E
 unfolding line_pieces
 end_joined n k m e = record { text = simp (joined_cons, each_joined, joined_none, e) (sym (end_is n m)) }
 
-pub refused_joined : (k : ℕ) → Carries (line.Refused k) (refused_line k)
+pub refused_joined : (k : Refusal) → Carries (line.Refused k) (refused_line (refusal_number k))
 unfolding line_pieces
-refused_joined k = record { text = simp (joined_cons, each_joined, joined_none) (sym (refused_is k)) }
+refused_joined k = record { text = simp (joined_cons, each_joined, joined_none) (sym (refused_is (refusal_number k))) }

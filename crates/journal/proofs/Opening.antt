@@ -17,17 +17,19 @@ use Rattle.machine.specs.Machine.{State, acted, step}
 use Rattle.book.specs.Calls.{answer_of, Called}
 use Rattle.demands.proofs.Shown.{shows_some}
 use Rattle.journal.specs.Lines.{Opened}
+use Rattle.sorts.specs.declared.Refusal.{Refusal}
+use Rattle.sorts.specs.declared.Refusal.TheVariants as refusal
 
 -- a refusal says nothing of the kind
-refusal_opened : (s : List ℕ) (a : Answer) (k : ℕ) → a ≡ Refused k → Opened s a
+refusal_opened : (s : List ℕ) (a : Answer) (k : Refusal) → a ≡ Refused k → Opened s a
 refusal_opened s a k e = subst (Opened s) (sym e) tt
 
 -- a kind that is not read is refused
-unread : (s : List ℕ) (j : ℕ) → read_mark s ≡ refused j → read_canonical s ≡ refused j
+unread : (s : List ℕ) (j : Refusal) → read_mark s ≡ refused j → read_canonical s ≡ refused j
 unfolding frame read_record read_canonical
 unread s j e = ap (λ (o : Outcome Kind). and_then (framed (marked o s)) (λ r n. got (canon_record r) n)) e
 
-says_refused : (M : State) (s m k n w : List ℕ) (j : ℕ) → read_mark s ≡ refused j → answer_of (step M s).says m k n w ≡ Refused j
+says_refused : (M : State) (s m k n w : List ℕ) (j : Refusal) → read_mark s ≡ refused j → answer_of (step M s).says m k n w ≡ Refused j
 unfolding step answer_of
 says_refused M s m k n w j e = ap (λ (o : Outcome Record). answer_of (acted M (extent s) o).says m k n w) (unread s j e)
 
@@ -49,5 +51,5 @@ called_opened b m k v s r n l w C = go (read_mark s) refl
         (λ f.
         let x = shows_some b m k f.book in
         refusal_opened s r.answer j ((C.formed f x.0 x.1).answer ∙ says_refused x.0 s m k n w j e))
-        (λ g. refusal_opened s r.answer 9 (ap (λ (x : Answered). x.answer) (C.unformed g).0))
+        (λ g. refusal_opened s r.answer refusal.Form (ap (λ (x : Answered). x.answer) (C.unformed g).0))
         C.decided

@@ -10,6 +10,8 @@ use Rattle.digits.specs.Decimals.{decimal, signed}
 use Rattle.pieces.specs.Words.{space, newline, permitted, open_word, not_permitted, refused_word, end_word, marks_word}
 use Rattle.lines.specs.declared.Said.{Said}
 use Rattle.lines.specs.Pieces.{said_pieces, joined}
+use Rattle.sorts.specs.declared.Refusal.{Refusal}
+use Rattle.sorts.specs.Refusals.{refusal_number}
 
 -- "its letters": a record "opens with two letters in ASCII".
 abbrev pub letters_in : List ℕ → List ℕ
@@ -27,7 +29,7 @@ said s (Previewed c) = letters_in s ++ nets c
 said s Permitted = letters_in s ++ permitted
 said s Open = letters_in s ++ open_word
 said s NotPermitted = letters_in s ++ not_permitted
-said s (Refused k) = refused_word ++ decimal k
+said s (Refused k) = refused_word ++ decimal (refusal_number k)
 
 -- "Each record gives a line with its number from 1", a space, what is said, and the line's end.
 unfoldable pub line_of : ℕ → List ℕ → Answer → List ℕ
@@ -45,11 +47,11 @@ end_of n m = end_word ++ decimal n ++ marks_word ++ decimal (ones m) ++ newline
 -- An answer other than a refusal, of a record that s starts with: the record's kind was read. (A call answers so: theorem
 -- `called_opened`.)
 abbrev pub Opened : List ℕ → Answer → Type 0
-Opened s (Changed c) = (j : ℕ) → read_mark s ≡ refused j → ⊥
-Opened s (Previewed c) = (j : ℕ) → read_mark s ≡ refused j → ⊥
-Opened s Permitted = (j : ℕ) → read_mark s ≡ refused j → ⊥
-Opened s Open = (j : ℕ) → read_mark s ≡ refused j → ⊥
-Opened s NotPermitted = (j : ℕ) → read_mark s ≡ refused j → ⊥
+Opened s (Changed c) = (j : Refusal) → read_mark s ≡ refused j → ⊥
+Opened s (Previewed c) = (j : Refusal) → read_mark s ≡ refused j → ⊥
+Opened s Permitted = (j : Refusal) → read_mark s ≡ refused j → ⊥
+Opened s Open = (j : Refusal) → read_mark s ≡ refused j → ⊥
+Opened s NotPermitted = (j : Refusal) → read_mark s ≡ refused j → ⊥
 Opened s (Refused k) = Unit {0}
 
 -- What a line says of the answer a to the record that s starts with: the letters of its kind are those of s.

@@ -1,22 +1,25 @@
 // The lines that tell of answers.
-ghost use Rattle.std.specs.Prelude.{◌≡◌, ℕ};
+ghost use Rattle.std.specs.Prelude.{◌≡◌};
+ghost use Rattle.sorts.specs.declared.Refusal.{Refusal};
+ghost use Rattle.sorts.specs.Refusals.{refusal_number};
 ghost use Rattle.ranges.specs.Bytes.{refused};
 ghost use Rattle.frames.specs.Frames.{letters_of, read_mark};
 ghost use Rattle.lines.specs.Pieces.{Carries};
 ghost use Rattle.journal.specs.Lines.{letters_in, line_of, end_of, refused_line, Opened, Says};
 
 use answer::Answer;
-use frames::{Kind, MarkOut};
+use frames::Kind;
 use lines::{Line, Said};
 use marks::standing;
+use sorts::Refusal;
 
 // The kind of the record that s starts with.
 fn kind_of(s: &[u8]) -> Kind
-    requires { (j : ℕ) → read_mark s.now ≡ refused j → ⊥ }
+    requires { (j : Refusal) → read_mark s.now ≡ refused j → ⊥ }
     ensures { letters_of result ≡ letters_in s.now }
 {
-    let MarkOut::Got(k, _) = frames::read_mark(s) else {
-        return Kind::Tg;
+    let Ok((k, _)) = frames::read_mark(s) else {
+        unreachable!();
     };
     k
 }
@@ -45,8 +48,8 @@ pub fn record_line(n: usize, s: &[u8], a: Answer) -> Line
 }
 
 // The line of a journal that is refused whole.
-pub fn refused_line(k: u8) -> Line
-    ensures { Carries result (refused_line k) }
+pub fn refused_line(k: Refusal) -> Line
+    ensures { Carries result (refused_line (refusal_number k)) }
 {
     Line::Refused(k)
 }

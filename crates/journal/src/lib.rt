@@ -3,13 +3,13 @@
 
 pub mod answers;
 
-ghost use Rattle.std.specs.Prelude.{◌≡◌, ◌≤◌, length};
-ghost use Rattle.bookform.specs.Books.{fresh_marks};
+ghost use Rattle.std.specs.Prelude.{◌≤◌, length};
 ghost use Rattle.journal.specs.Journals.{Steps, Leaves};
 
 use answer::Answered;
 use bookform::Book;
 use lines::Line;
+use sorts::Number;
 
 // What the call on a record answered, the record's line, and where the next record starts.
 #[derive(Clone, Copy)]
@@ -33,8 +33,7 @@ pub fn step(
     ensures { Steps b marks.old second.old preview.old s.now at n result marks.new second.new preview.new }
 {
     let answered = book::call(b, marks, second, preview, &s[at..]);
-    let answer = answered.answer;
-    let line = answers::record_line(n, &s[at..], answer);
+    let line = answers::record_line(n, &s[at..], answered.answer);
     let next = places::next_place(s.len(), at, answered.used);
     Stepped {
         answered,
@@ -43,18 +42,33 @@ pub fn step(
     }
 }
 
-// The book that the records of a journal leave, read from a fresh one on; the marks in both buffers and the preview buffer lent with
-// it are those that they leave.
-pub fn book_after(s: &[u8], marks: &mut [u8], second: &mut [u8], preview: &mut [u8]) -> Book
-    requires { (marks.old ≡ fresh_marks) × (second.old ≡ fresh_marks) × (preview.old ≡ fresh_marks) }
-    ensures { Leaves s.now result marks.new second.new preview.new }
+// The book that a journal leaves, the marks in both buffers, and the preview buffer.
+#[derive(Clone, Copy)]
+pub struct Left {
+    pub book: Book,
+    pub marks: [u8; Number::MARKS],
+    pub second: [u8; Number::MARKS],
+    pub preview: [u8; Number::MARKS],
+}
+
+// What the records of a journal leave, read from a fresh book on, with every buffer 0.
+pub fn left_by(s: &[u8]) -> Left
+    ensures { Leaves s.now result.book result.marks result.second result.preview }
 {
-    let mut b = Book::new();
+    let mut book = Book::new();
+    let mut marks = [0u8; Number::MARKS];
+    let mut second = [0u8; Number::MARKS];
+    let mut preview = [0u8; Number::MARKS];
     let mut at: usize = 0;
     while at < s.len() {
-        let a = book::call(b, marks, second, preview, &s[at..]);
+        let a = book::call(book, &mut marks, &mut second, &mut preview, &s[at..]);
         at = places::next_place(s.len(), at, a.used);
-        b = a.book;
+        book = a.book;
     }
-    b
+    Left {
+        book,
+        marks,
+        second,
+        preview,
+    }
 }

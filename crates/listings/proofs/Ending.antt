@@ -9,6 +9,8 @@ use lib.ListN.{length, get_or}
 use lib.Dec.{eqb}
 use Rattle.ranges.specs.Bytes.{Outcome, got, refused}
 use Rattle.sorts.specs.Numbers.{all_marks}
+use Rattle.sorts.specs.declared.Refusal.{Refusal}
+use Rattle.sorts.specs.Refusals.{refusal_number}
 use Rattle.frames.specs.Frames.{extent}
 use Rattle.contents.specs.Records.{Record}
 use Rattle.reader.specs.Records.{read_record, read_canonical}
@@ -37,10 +39,10 @@ abbrev Ending : Verdict → Type 0
 Ending changes = ⊥
 Ending (previews p g) = ⊥
 Ending (asks c) = ⊥
-Ending (refuses k) = (1 ≤ k) × (k ≤ 2)
+Ending (refuses k) = (1 ≤ refusal_number k) × (refusal_number k ≤ 2)
 
 -- which is a refusal by 1 or 2
-ending_refuses : (y : Verdict) → Ending y → (k : ℕ) × (y ≡ refuses k) × (k ≤ 2)
+ending_refuses : (y : Verdict) → Ending y → (k : Refusal) × (y ≡ refuses k) × (refusal_number k ≤ 2)
 ending_refuses changes x = absurd x
 ending_refuses (previews p g) x = absurd x
 ending_refuses (asks c) x = absurd x
@@ -55,11 +57,11 @@ acted_ends M s (got r n) e =
     )
 acted_ends M s (refused k) e = go (fault_at s k (canonical_refused s k e))
   where
-    go : Turned s k → (extent s ≡ 0) ↔ ((1 ≤ k) × (k ≤ 2))
-    go (at_frame f (inl h) x) = (λ u. (omega arith, omega arith), λ i. x)
-    go (at_frame f (inr h) x) = (λ u. (omega arith, omega arith), λ i. x)
+    go : Turned s k → (extent s ≡ 0) ↔ ((1 ≤ refusal_number k) × (refusal_number k ≤ 2))
+    go (at_frame f (inl h) x) = let e = ap refusal_number h in (λ u. (omega arith, omega arith), λ i. x)
+    go (at_frame f (inr h) x) = let e = ap refusal_number h in (λ u. (omega arith, omega arith), λ i. x)
     go (in_content (inl h) l x) = (λ u. absurd (omega (arith, u, l)), λ i. absurd (omega (arith, h.0, i.1)))
-    go (in_content (inr h) l x) = (λ u. absurd (omega (arith, u, l)), λ i. absurd (omega (arith, h, i.1)))
+    go (in_content (inr h) l x) = (λ u. absurd (omega (arith, u, l)), λ i. absurd (omega (arith, ap refusal_number h, i.1)))
 
 step_ends : (M : State) (s : List ℕ) → ((step M s).used ≡ 0) ↔ Ending (step M s).says
 unfolding step

@@ -1,5 +1,6 @@
 -- The listing of a whole journal.
 use Rattle.std.specs.Prelude.{ℕ, ◌+◌, ◌≤◌, ◌<◌, ◌≡◌, ◌↔◌, List, [], ◌∷◌, ◌++◌, length, get_or}
+use Rattle.sorts.specs.Refusals.{refusal_number}
 use Rattle.bookform.specs.declared.Book.{Book}
 use Rattle.answer.specs.declared.Answer.{Answer}
 use Rattle.answer.specs.declared.Answer.TheVariants.{Permitted, Open, NotPermitted, Changed, Previewed, Refused}
@@ -18,7 +19,7 @@ Ends Open = ⊥
 Ends NotPermitted = ⊥
 Ends (Changed c) = ⊥
 Ends (Previewed c) = ⊥
-Ends (Refused k) = (1 ≤ k) × (k ≤ 2)
+Ends (Refused k) = (1 ≤ refusal_number k) × (refusal_number k ≤ 2)
 
 -- DEMANDED of the calls of a journal: those that use no byte, and so end it, are those with the refusals 1 and 2.
 unfoldable pub AllEnd : List Call → Type 0

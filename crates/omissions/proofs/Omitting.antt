@@ -28,6 +28,7 @@ use Rattle.journal.specs.Lines.{nets, said}
 use Rattle.journal.specs.Journals.{Calls, ended, then}
 use Rattle.listings.proofs.Ending.{left_long}
 use Rattle.omissions.specs.Omissions.{own_bytes, journal_of, Omitted, none, keep, omit, told, AsBefore}
+use Rattle.sorts.specs.Refusals.{refusal_number}
 
 -- a line says the same of records that start with the same letters
 said_same : (s t : List ℕ) (a : Answer) → take 2 s ≡ take 2 t → said s a ≡ said t a
@@ -139,7 +140,7 @@ omitted {b} {b'} {m} {m'} {k} {k'} {v} {v'} M B S (then {cs = cs} s r n l w h C 
 omitted {b} {b'} {m} {m'} {k} {k'} {v} {v'} M B S (then s r n l w h C x) (omit {ds = ds} c j q O) =
     let F = C.formed B M S in
     let U = omitted (step M s).next (record { book = F.form; preview = left_long M B S C }) F.shows x O in
-    let K = ((demand_1 b m k v s r n l w C).formed B M S).kept j (ap (λ (a : Answer). (worth a).number) q) in
+    let K = ((demand_1 b m k v s r n l w C).formed B M S).kept (refusal_number j) (ap (λ (a : Answer). (worth a).number) q) in
     subst (λ (z : List ℕ). AsBefore b m k z ds b' m' k' v') K.3
     (subst (λ (z : List ℕ). AsBefore b m z w ds b' m' k' v') K.2
     (subst (λ (z : List ℕ). AsBefore b z l w ds b' m' k' v') K.1

@@ -8,6 +8,7 @@ use Rattle.book.specs.Chains.{Call}
 use Rattle.journal.specs.Lines.{said, end_of}
 use Rattle.journal.specs.Journals.{Calls}
 use Rattle.listings.specs.Listings.{Listed, record_lines}
+use Rattle.sorts.specs.declared.Refusal.{Refusal}
 
 -- The bytes of the record at the front of s, by the bytes used: one that uses none ends the reading, and has all that was left.
 unfoldable pub own_bytes : ℕ → List ℕ → List ℕ
@@ -25,7 +26,7 @@ journal_of (c ∷ cs) = record_of c ++ journal_of cs
 pub data Omitted : List Call → List Call → Type 0 where
   none : Omitted [] []
   keep : {cs ds : List Call} (c : Call) → Omitted cs ds → Omitted (c ∷ cs) (c ∷ ds)
-  omit : {cs ds : List Call} (c : Call) (j : ℕ) → c.gave.answer ≡ Refused j → Omitted cs ds → Omitted (c ∷ cs) ds
+  omit : {cs ds : List Call} (c : Call) (j : Refusal) → c.gave.answer ≡ Refused j → Omitted cs ds → Omitted (c ∷ cs) ds
 
 -- The accepted calls alone: all refused ones left out.
 abbrev pub if_accepted : Answer → Call → List Call → List Call

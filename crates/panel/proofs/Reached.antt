@@ -6,6 +6,8 @@ use mathlib.Core.Logic.{◌↔◌}
 use native.Mathlib.Omega.{arith}
 use native.Mathlib.Decide.{ℕ_discrete}
 use lib.ListN.{length, get_or}
+use Rattle.std.specs.Prelude.{Result, Ok}
+use Rattle.sorts.specs.declared.Refusal.{Refusal}
 use Rattle.sorts.specs.Numbers.{number_of, speakers, packs}
 use Rattle.machine.specs.Machine.{State, Step, start, feed}
 use Rattle.machine.specs.Closed as closed
@@ -73,8 +75,8 @@ module _ (cs : List Call) (b : Book) (m k : List ℕ) (K : Chain fresh_book fres
           go (yes e) = absurd (d e)
           go (no e) = omega (arith, bit_small w n)
 
-  -- ON A BOOK REACHED FROM A FRESH ONE both words of the panel tell of the closed sets.
-  pub panel_reached : (r : Panel) → PanelOf b m k p r → Told M p Run r.run × Told M p Export r.export
+  -- ON A BOOK REACHED FROM A FRESH ONE the panel of a principal is shown, and both words tell of the closed sets.
+  pub panel_reached : (r : Result Panel Refusal) → PanelOf b m k p r → (w : Panel) × (r ≡ Ok w) × Told M p Run w.run × Told M p Export w.export
   panel_reached r P =
       let s = P.shown (demand_3 cs b m k K).form l in
-      (packs_told Run r.run s.1, packs_told Export r.export s.2)
+      (s.0, s.1, packs_told Run s.0.run s.2, packs_told Export s.0.export s.3)

@@ -7,8 +7,11 @@ use mathlib.Core.Logic.{inl, inr}
 use native.Mathlib.Omega.{arith}
 use native.Mathlib.Decide.{dec_lt}
 use borrow.Author.Tests.{le-leb, lt-leb}
+use Rattle.std.specs.Prelude.{Result, Ok, Err}
 use Rattle.sorts.specs.Decides.{Decides}
 use Rattle.sorts.specs.Numbers.{number_of, speakers}
+use Rattle.sorts.specs.declared.Refusal.TheVariants as refusal
+use Rattle.sorts.specs.declared.Refusal.{Refusal}
 use Rattle.bookform.specs.declared.Book.{Book}
 use Rattle.answer.specs.declared.Answer.{Answer}
 use Rattle.answer.specs.declared.Answer.TheVariants.{Permitted, Open, NotPermitted, Changed, Previewed, Refused}
@@ -16,11 +19,9 @@ use Rattle.bookform.specs.Books.{BookForm}
 use Rattle.answer.specs.Answers.{answer_at}
 use Rattle.panel.specs.declared.PackRight.{PackRight}
 use Rattle.panel.specs.declared.PackRight.TheVariants.{Run, Export}
-use Rattle.panel.specs.declared.Said.{Said}
-use Rattle.panel.specs.declared.Said.TheVariants as said
 use Rattle.panel.specs.declared.Panel.{Panel}
-use Rattle.panel.specs.Panels.{conclusion_of, number_said, Packs, refused_with, PanelOf}
-use Rattle.panel.specs.Inner.Words.{one_for, said_of, WordOf}
+use Rattle.panel.specs.Panels.{conclusion_of, Packs, PanelOf}
+use Rattle.panel.specs.Inner.Words.{one_for, admits, WordOf}
 use Rattle.panel.proofs.Words.{word_bit}
 use Rattle.panel.proofs.Asked.{permitted_at}
 
@@ -44,23 +45,23 @@ module _ (b : Book) (m k : List ℕ) (p : ℕ) where
         size = W.size;
       }
 
-  said_above : speakers ≤ p → said_of true p ≡ said.Refused 3
-  said_above l = rw (le-leb speakers p l)
+  refused_above : speakers ≤ p → admits true p ≡ Err refusal.Range
+  refused_above l = rw (le-leb speakers p l)
 
-  said_below : p < speakers → said_of true p ≡ said.Shown
-  said_below l = rw (lt-leb speakers p l)
+  shown_below : p < speakers → admits true p ≡ Ok (tt {0})
+  shown_below l = rw (lt-leb speakers p l)
 
   -- it is shown on a book in form, to one of the principals
-  pub shown_form : (form : Bool) → Decides form (BookForm b m k) → said_of form p ≡ said.Shown → BookForm b m k × (p < speakers)
-  shown_form false d e = let z : ◌≡◌ {A = ℕ} 9 0 = ap number_said e in absurd (omega arith)
+  pub shown_form : (form : Bool) → Decides form (BookForm b m k) → admits form p ≡ Ok (tt {0}) → BookForm b m k × (p < speakers)
+  shown_form false d e = let z : ◌≡◌ {A = ℕ} 0 1 = cc in absurd (omega arith)
   shown_form true f e = (f, go (dec_lt p speakers))
     where
       go : Dec (p < speakers) → p < speakers
       go (yes l) = l
-      go (no l) = let z : ◌≡◌ {A = ℕ} 3 0 = ap number_said (sym (said_above (omega arith)) ∙ e) in absurd (omega arith)
+      go (no l) = let a = refused_above (omega arith) in let z : ◌≡◌ {A = ℕ} 0 1 = cc in absurd (omega arith)
 
-  pub panel_shown : (form : Bool) → Decides form (BookForm b m k) → said_of form p ≡ said.Shown → (w v : ℕ) → WordOf m k p Run w → WordOf m k p Export v →
-      PanelOf b m k p (record { said = said.Shown; run = w; export = v })
+  pub panel_shown : (form : Bool) → Decides form (BookForm b m k) → admits form p ≡ Ok (tt {0}) → (w v : ℕ) → WordOf m k p Run w → WordOf m k p Export v →
+      PanelOf b m k p (Ok (record { run = w; export = v }))
   panel_shown form d e w v W X =
       let h = shown_form form d e in
       let l = h.1 in
@@ -68,14 +69,14 @@ module _ (b : Book) (m k : List ℕ) (p : ℕ) where
         decided = inl h.0;
         unformed = λ g. absurd (g h.0);
         above = λ f r. absurd (omega arith);
-        shown = λ f r. (refl, packs_shown f r Run w W, packs_shown f r Export v X);
+        shown = λ f r. (record { run = w; export = v }, refl, packs_shown f r Run w W, packs_shown f r Export v X);
       }
 
-  pub panel_refused : (form : Bool) → Decides form (BookForm b m k) → (j : ℕ) → said_of form p ≡ said.Refused j → (r : Panel) → r ≡ refused_with j → PanelOf b m k p r
+  pub panel_refused : (form : Bool) → Decides form (BookForm b m k) → (j : Refusal) → admits form p ≡ Err j → (r : Result Panel Refusal) → r ≡ Err j → PanelOf b m k p r
   panel_refused false d j e r q =
       record {
         decided = inr d;
-        unformed = λ g. q ∙ ap refused_with (sym (ap number_said e));
+        unformed = λ g. cc;
         above = λ f l. absurd (d f);
         shown = λ f l. absurd (d f);
       }
@@ -83,13 +84,6 @@ module _ (b : Book) (m k : List ℕ) (p : ℕ) where
       record {
         decided = inl f;
         unformed = λ g. absurd (g f);
-        above = λ g l. q ∙ ap refused_with (ap number_said (sym e ∙ said_above l));
-        shown = λ g l. absurd (differ (ap is_shown (sym e ∙ said_below l)));
+        above = λ g l. let a = refused_above l in cc;
+        shown = λ g l. let a = shown_below l in let z : ◌≡◌ {A = ℕ} 0 1 = cc in absurd (omega arith);
       }
-    where
-      is_shown : Said → ℕ
-      is_shown (said.Refused i) = 0
-      is_shown said.Shown = 1
-
-      differ : ◌≡◌ {A = ℕ} 0 1 → ⊥
-      differ z = omega arith

@@ -6,6 +6,8 @@ use mathlib.Core.Logic.{◌⊎◌, inl, inr}
 use native.Mathlib.Nat.{zero-lt-suc, div-div-eq-div-mul, pow-succ'}
 use native.Mathlib.Omega.{arith}
 use native.Mathlib.Decide.{ℕ_discrete, dec_lt}
+use Rattle.std.specs.Prelude.{Result, Ok}
+use Rattle.sorts.specs.declared.Refusal.{Refusal}
 use Rattle.sorts.specs.Numbers.{speakers, packs}
 use Rattle.bookform.specs.declared.Book.{Book}
 use Rattle.bookform.specs.Books.{BookForm}
@@ -44,14 +46,14 @@ module _ (b : Book) (m k : List ℕ) (p : ℕ) where
       go n r (no d) (no c) = omega (arith, bit_small w n, bit_small v n)
 
   -- Two panels of one book, marks and principal are the same.
-  pub panel_only : (r q : Panel) → PanelOf b m k p r → PanelOf b m k p q → r ≡ q
+  pub panel_only : (r q : Result Panel Refusal) → PanelOf b m k p r → PanelOf b m k p q → r ≡ q
   panel_only r q P Q = by P.decided
     where
       formed : BookForm b m k → Dec (p < speakers) → r ≡ q
       formed f (yes l) =
           let x = P.shown f l in
           let y = Q.shown f l in
-          λ i. record { said = (x.0 ∙ sym y.0) i; run = packs_only _ r.run q.run x.1 y.1 i; export = packs_only _ r.export q.export x.2 y.2 i }
+          x.1 ∙ (λ i. Ok (record { run = packs_only _ x.0.run y.0.run x.2 y.2 i; export = packs_only _ x.0.export y.0.export x.3 y.3 i })) ∙ sym y.1
       formed f (no l) = P.above f (omega arith) ∙ sym (Q.above f (omega arith))
 
       by : BookForm b m k ⊎ (BookForm b m k → ⊥) → r ≡ q

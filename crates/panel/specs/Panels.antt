@@ -1,7 +1,9 @@
 -- Document 02, §2, "The run panel of a bench".
-use Rattle.std.specs.Prelude.{ℕ, ◌/◌, ◌%◌, ◌^◌, ◌≤◌, ◌<◌, ◌≡◌, ◌⊎◌, ◌↔◌, List, [], length}
+use Rattle.std.specs.Prelude.{ℕ, ◌/◌, ◌%◌, ◌^◌, ◌≤◌, ◌<◌, ◌≡◌, ◌⊎◌, ◌↔◌, List, [], length, Result, Ok, Err}
 use Rattle.sorts.specs.declared.Concl.{Concl}
 use Rattle.sorts.specs.Numbers.{number_of, speakers, packs, all_marks}
+use Rattle.sorts.specs.declared.Refusal.{Refusal}
+use Rattle.sorts.specs.declared.Refusal.TheVariants as refusal
 use Rattle.rows.specs.Written as written
 use Rattle.rows.specs.Written.{perm, run, export}
 use Rattle.rows.specs.Form.{concl_of}
@@ -17,8 +19,6 @@ use Rattle.bookform.specs.Books.{BookForm}
 use Rattle.book.specs.Calls.{Called}
 use Rattle.panel.specs.declared.PackRight.{PackRight}
 use Rattle.panel.specs.declared.PackRight.TheVariants.{Run, Export}
-use Rattle.panel.specs.declared.Said.{Said}
-use Rattle.panel.specs.declared.Said.TheVariants.{Shown, Refused}
 use Rattle.panel.specs.declared.Panel.{Panel}
 
 -- "run, or export, of pack n": principal p's right as it is written in a record, and as a closed conclusion, which has a number.
@@ -48,22 +48,13 @@ pub record Packs (b : Book) (m k : List ℕ) (p : ℕ) (x : PackRight) (w : ℕ)
   pub bits : (n : ℕ) → n < packs → (bit w n ≡ 1) ↔ IsPermitted b m k p x n
   pub size : w < 2 ^ packs
 
--- The number of what is said: that of the refusal, 0 where the panel is shown.
-abbrev pub number_said : Said → ℕ
-number_said (Refused k) = k
-number_said Shown = 0
-
--- "either refusal returns both words 0"
-abbrev pub refused_with : ℕ → Panel
-refused_with k = record { said = Refused k; run = 0; export = 0 }
-
 -- THE PROMISE of the panel, whatever book, marks and principal: "For a principal it returns two 32-bit words"; "A principal above 15
 -- meets refusal 3, checked after 9".
-pub record PanelOf (b : Book) (m k : List ℕ) (p : ℕ) (r : Panel) : Type 0 where
+pub record PanelOf (b : Book) (m k : List ℕ) (p : ℕ) (r : Result Panel Refusal) : Type 0 where
   pub decided : BookForm b m k ⊎ (BookForm b m k → ⊥)
-  pub unformed : (BookForm b m k → ⊥) → r ≡ refused_with 9
-  pub above : BookForm b m k → speakers ≤ p → r ≡ refused_with 3
-  pub shown : BookForm b m k → p < speakers → (r.said ≡ Shown) × Packs b m k p Run r.run × Packs b m k p Export r.export
+  pub unformed : (BookForm b m k → ⊥) → r ≡ Err refusal.Form
+  pub above : BookForm b m k → speakers ≤ p → r ≡ Err refusal.Range
+  pub shown : BookForm b m k → p < speakers → (w : Panel) × (r ≡ Ok w) × Packs b m k p Run w.run × Packs b m k p Export w.export
 
 -- Under some choice of which provisional licences become firm a closed set lacks the conclusion: it is open, or not permitted.
 pub record Lacks (M : State) (n : ℕ) : Type 1 where

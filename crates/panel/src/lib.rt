@@ -4,8 +4,8 @@
 ghost use Rattle.std.specs.Prelude.{◌≡◌, ◌<◌, length};
 ghost use Rattle.sorts.specs.Numbers.{number_of, speakers, packs, all_marks};
 ghost use Rattle.answer.specs.Answers.{answer_at};
-ghost use Rattle.panel.specs.Panels.{conclusion_of, refused_with, PanelOf};
-ghost use Rattle.panel.specs.Inner.Words.{one_for, said_of, WordOf};
+ghost use Rattle.panel.specs.Panels.{conclusion_of, PanelOf};
+ghost use Rattle.panel.specs.Inner.Words.{one_for, admits, WordOf};
 
 use answer::Answer;
 use bookform::Book;
@@ -18,17 +18,9 @@ pub enum PackRight {
     Export,
 }
 
-// The panel is shown, or refused with a number.
-#[derive(Clone, Copy)]
-pub enum Said {
-    Shown,
-    Refused(u8),
-}
-
 // Bit n of a word is 1 where run, or export, of pack n is permitted. It is 0 where that is open.
 #[derive(Clone, Copy)]
 pub struct Panel {
-    pub said: Said,
     pub run: u32,
     pub export: u32,
 }
@@ -66,49 +58,31 @@ fn word(p: u8, x: PackRight, marks: &[u8], second: &[u8]) -> u32
     ensures { WordOf marks.now second.now p x result }
 {
     let mut w: u32 = 0;
-    let mut n = Pack::COUNT;
-    while n > 0 {
-        n -= 1;
+    for n in (0..Pack::COUNT).rev() {
         w = 2 * w + one(conclusion(p, x, n), marks, second);
     }
     w
 }
 
-// What is said to a principal of a book that is in form or not.
-fn verdict(form: bool, p: u8) -> Said
-    ensures { result ≡ said_of form p }
+// Whether a panel is shown of a book that is in form or not: only to a principal.
+fn admit(form: bool, p: u8) -> Result<(), Refusal>
+    ensures { result ≡ admits form p }
 {
     if !form {
-        return Said::Refused(Refusal::FORM);
+        return Err(Refusal::Form);
     }
     if p >= Prin::SPEAKERS {
-        return Said::Refused(Refusal::RANGE);
+        return Err(Refusal::Range);
     }
-    Said::Shown
-}
-
-// A refused panel: both words are 0.
-fn refused(k: u8) -> Panel
-    ensures { result ≡ refused_with k }
-{
-    Panel {
-        said: Said::Refused(k),
-        run: 0,
-        export: 0,
-    }
+    Ok(())
 }
 
 // The panel of a principal over a lent book.
-pub fn show(b: Book, marks: &[u8], second: &[u8], p: u8) -> Panel
+pub fn show(b: Book, marks: &[u8], second: &[u8], p: u8) -> Result<Panel, Refusal>
     ensures { PanelOf b marks.now second.now p result }
 {
-    let said = verdict(bookform::in_form(b, marks, second), p);
-    match said {
-        Said::Refused(k) => refused(k),
-        Said::Shown => Panel {
-            said: Said::Shown,
-            run: word(p, PackRight::Run, marks, second),
-            export: word(p, PackRight::Export, marks, second),
-        },
-    }
+    admit(bookform::in_form(b, marks, second), p)?;
+    let run = word(p, PackRight::Run, marks, second);
+    let export = word(p, PackRight::Export, marks, second);
+    Ok(Panel { run, export })
 }

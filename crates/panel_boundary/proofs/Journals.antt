@@ -4,6 +4,8 @@ use Prim.Native.Nat.{ℕ, ◌<◌}
 use mathlib.Core.Path.{◌≡◌, refl, sym, subst}
 use mathlib.Core.List.{List}
 use native.Mathlib.Omega.{arith}
+use Rattle.std.specs.Prelude.{Result, Ok}
+use Rattle.sorts.specs.declared.Refusal.{Refusal}
 use Rattle.sorts.specs.Numbers.{speakers}
 use Rattle.bookform.specs.declared.Book.{Book}
 use Rattle.machine.specs.Machine.{start}
@@ -18,13 +20,13 @@ use Rattle.panel.proofs.Reached.{panel_reached}
 use Rattle.panel.proofs.Unique.{panel_only}
 use Rattle.panel_boundary.specs.Crossing.{JournalPanel, over, read, JournalPreview, blank, left}
 
--- ON THE BOOK THAT A JOURNAL LEAVES both words tell of the closed sets.
-pub journal_told : (s : List ℕ) (b : Book) (m k v : List ℕ) (L : Leaves s b m k v) (p : ℕ) → p < speakers → (r : Panel) → PanelOf b m k p r →
-    Told (runs start (records L.calls)) p Run r.run × Told (runs start (records L.calls)) p Export r.export
+-- ON THE BOOK THAT A JOURNAL LEAVES the panel of a principal is shown, and both words tell of the closed sets.
+pub journal_told : (s : List ℕ) (b : Book) (m k v : List ℕ) (L : Leaves s b m k v) (p : ℕ) → p < speakers → (r : Result Panel Refusal) → PanelOf b m k p r →
+    (w : Panel) × (r ≡ Ok w) × Told (runs start (records L.calls)) p Run w.run × Told (runs start (records L.calls)) p Export w.export
 journal_told s b m k v L p l r P = panel_reached L.calls b m k (calls_chain L.made) p l r P
 
 -- A journal has one panel only for a principal.
-pub journal_only : (s : List ℕ) (p : ℕ) (r q : Panel) → JournalPanel s p r → JournalPanel s p q → r ≡ q
+pub journal_only : (s : List ℕ) (p : ℕ) (r q : Result Panel Refusal) → JournalPanel s p r → JournalPanel s p q → r ≡ q
 journal_only s p r q (over l) (over h) = refl
 journal_only s p r q (over l) (read b m k v x h L P) = absurd (omega arith)
 journal_only s p r q (read b m k v x l L P) (over h) = absurd (omega arith)

@@ -10,6 +10,8 @@ use lib.Dec.{eqb}
 use Rattle.sorts.specs.declared.Status.TheVariants.{Issued, Provisional}
 use Rattle.sorts.specs.Numbers.{conclusions, all_marks}
 use Rattle.sorts.proofs.Marks.{number_lt}
+use Rattle.sorts.specs.declared.Refusal.TheVariants as refusal
+use Rattle.sorts.specs.declared.Refusal.{Refusal}
 use Rattle.rows.specs.Numbering.{number, number_concl}
 use Rattle.rows.specs.Form.{concl_of}
 use Rattle.rows.proofs.Bytes.{no_true}
@@ -52,7 +54,7 @@ module _ (M : State) (c : ℕ) where
   no_asks true S S' p q e = p (subst Asking (sym e) tt)
   no_asks false S S' p q e = q (subst Asking (sym e) tt)
 
-  one_asks : (t : Bool) (S S' : Step) → (cond t S S').says ≡ asks c → (d : ℕ) → S.says ≡ asks d → (k : ℕ) → S'.says ≡ refuses k → (t ≡ true) × (d ≡ c)
+  one_asks : (t : Bool) (S S' : Step) → (cond t S S').says ≡ asks c → (d : ℕ) → S.says ≡ asks d → (k : Refusal) → S'.says ≡ refuses k → (t ≡ true) × (d ≡ c)
   one_asks true S S' e d p k q = (refl, cc)
   one_asks false S S' e d p k q = let z : ◌≡◌ {A = ℕ} 0 1 = cc in absurd (omega arith)
 
@@ -63,7 +65,7 @@ module _ (M : State) (c : ℕ) where
   asked_small (confirm p g) n a e = absurd (no_asks (stands M (Provisional p) g) _ _ (λ z. z) (λ z. z) e)
   asked_small (preview p g) n a e = absurd (no_asks (there (Issued p) g M.entries) _ _ (λ z. z) (λ z. z) e)
   asked_small (query d) n a e =
-      let w = one_asks (fits (number_concl d M.N)) _ _ e _ refl 6 refl in
+      let w = one_asks (fits (number_concl d M.N)) _ _ e _ refl refusal.Full refl in
       subst (λ (k : ℕ). k < conclusions) w.1 (number_lt (concl_of (number_concl d M.N) d) (concl_closed d M.N a.0 w.0))
 
   asks_small : (u : ℕ) (s : List ℕ) → (feed M u s).says ≡ asks c → c < conclusions
@@ -74,7 +76,7 @@ module _ (M : State) (c : ℕ) where
       go (got q n) f e = asked_small q n (canonical_exact s q n f).0 e
       go (refused k) f e = absurd (subst Asking (sym e) tt)
 
-      fed : (t : Bool) → (cond t (step M s) (refuse M 9 0)).says ≡ asks c → c < conclusions
+      fed : (t : Bool) → (cond t (step M s) (refuse M refusal.Form 0)).says ≡ asks c → c < conclusions
       fed true e = go (read_canonical s) refl e
       fed false e = absurd (subst Asking (sym e) tt)
 

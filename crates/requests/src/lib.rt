@@ -50,12 +50,10 @@ pub fn apply(
     ensures second { second.new ≡ marks_applied both_marks b second.old r }
     ensures preview { preview.new ≡ preview_applied b preview.old r }
 {
-    let t = r.table;
-    let f = r.found;
-    match f {
+    match r.found {
         Found::Refused(k, n) => refuse(b, k, n),
-        Found::Full(n) => refuse(b, Refusal::FULL, n),
-        Found::Unknown(n) => refuse(b, Refusal::ABSENT, n),
-        Found::Asks(q, n) => act(b, t, q, n, marks, second, preview),
+        Found::Full(n) => refuse(b, Refusal::Full, n),
+        Found::Unknown(n) => refuse(b, Refusal::Absent, n),
+        Found::Asks(q, n) => act(b, r.table, q, n, marks, second, preview),
     }
 }

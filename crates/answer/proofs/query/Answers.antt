@@ -1,4 +1,4 @@
 use Rattle.answer.proofs.query.Goals as goal
 
 pub returns : goal.returns
-returns c = rw c.answer_for-answer.ensures
+returns c = rw c.answer_for.ensures

@@ -1,5 +1,6 @@
 -- A refusal, and the answer of a query, as the code composes them.
 use Rattle.std.specs.Prelude.{ℕ, List}
+use Rattle.sorts.specs.declared.Refusal.{Refusal}
 use Rattle.sorts.specs.declared.Concl.{Concl}
 use Rattle.sorts.specs.Numbers.{number_of}
 use Rattle.rows.specs.declared.Table.{Table}
@@ -8,7 +9,7 @@ use Rattle.answer.specs.declared.Answer.TheVariants.{Refused}
 use Rattle.answer.specs.declared.Answered.{Answered}
 use Rattle.answer.specs.Answers.{answer_at}
 
-abbrev pub refused_with : Book → ℕ → ℕ → Answered
+abbrev pub refused_with : Book → Refusal → ℕ → Answered
 refused_with b k n = record { book = b; answer = Refused k; used = n }
 
 abbrev pub queried : Book → Table → Concl → List ℕ → List ℕ → ℕ → Answered

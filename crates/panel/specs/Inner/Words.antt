@@ -1,11 +1,12 @@
 -- A word as it is made from the answers, and what is said.
-use Rattle.std.specs.Prelude.{ℕ, ◌+◌, ◌^◌, ◌<◌, ◌≡◌, Bool, true, false, cond, List, leb}
+use Rattle.std.specs.Prelude.{ℕ, ◌+◌, ◌^◌, ◌<◌, ◌≡◌, Bool, true, false, cond, List, leb, Result, Ok, Err}
 use Rattle.sorts.specs.Numbers.{number_of, speakers, packs}
+use Rattle.sorts.specs.declared.Refusal.TheVariants as refusal
+use Rattle.sorts.specs.declared.Refusal.{Refusal}
 use Rattle.answer.specs.declared.Answer.{Answer}
 use Rattle.answer.specs.declared.Answer.TheVariants.{Permitted, Open, NotPermitted, Changed, Previewed, Refused}
 use Rattle.answer.specs.Answers.{answer_at}
 use Rattle.panel.specs.declared.PackRight.{PackRight}
-use Rattle.panel.specs.declared.Said as said
 use Rattle.panel.specs.Panels.{conclusion_of, bit}
 
 -- 1 for an answer that permits
@@ -30,7 +31,7 @@ pub record WordFrom (m k : List ℕ) (p : ℕ) (x : PackRight) (n u w : ℕ) : T
 abbrev pub WordOf : List ℕ → List ℕ → ℕ → PackRight → ℕ → Type 0
 WordOf m k p x w = WordFrom m k p x 0 packs w
 
--- what is said, by whether the book is in form and by the principal
-abbrev pub said_of : Bool → ℕ → said.Said
-said_of false p = said.TheVariants.Refused 9
-said_of true p = cond (leb speakers p) (said.TheVariants.Refused 3) said.TheVariants.Shown
+-- whether the panel is shown, by whether the book is in form and by the principal
+abbrev pub admits : Bool → ℕ → Result (Unit {0}) Refusal
+admits false p = Err refusal.Form
+admits true p = cond (leb speakers p) (Err refusal.Range) (Ok (tt {0}))

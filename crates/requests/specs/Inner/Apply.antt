@@ -3,6 +3,7 @@ use Rattle.std.specs.Prelude.{ℕ, ◌<◌, ◌≡◌, cond, List, length}
 use Rattle.sorts.specs.declared.Status.TheVariants.{Issued, Provisional}
 use Rattle.sorts.specs.Numbers.{number_of, all_marks, grants}
 use Rattle.sorts.specs.Flags.{StatusRange, all_flags}
+use Rattle.sorts.specs.declared.Refusal.TheVariants as refusal
 use Rattle.rows.specs.declared.Table.{Table}
 use Rattle.contents.specs.declared.Request.TheVariants.{Enter, Remove, Confirm, Preview, Query}
 use Rattle.contents.specs.declared.Found.{Found}
@@ -18,8 +19,8 @@ use Rattle.revising.specs.Inner.Revising.{changed_to, entered_book, removed_book
 
 abbrev pub applied_to : Book → List ℕ → List ℕ → Table → Found → Answered
 applied_to b m k t (found.Refused j n) = refused_with b j n
-applied_to b m k t (found.Full n) = refused_with b 6 n
-applied_to b m k t (found.Unknown n) = refused_with b 7 n
+applied_to b m k t (found.Full n) = refused_with b refusal.Full n
+applied_to b m k t (found.Unknown n) = refused_with b refusal.Absent n
 applied_to b m k t (found.Asks (Enter by g) n) = changed_to (entered_book b t by g.0) m n
 applied_to b m k t (found.Asks (Remove by g) n) = removed b by g.0 m n
 applied_to b m k t (found.Asks (Confirm p g) n) = confirmed b p g.0 m n

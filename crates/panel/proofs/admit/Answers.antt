@@ -1,6 +1,6 @@
 use Rattle.sorts.specs.Numbers.{speakers}
 use borrow.Author.Tests.{le-leb, lt-leb}
-use Rattle.panel.proofs.verdict.Goals as goal
+use Rattle.panel.proofs.admit.Goals as goal
 
 pub returns-then-not-form : goal.returns-then-not-form
 returns-then-not-form c = rw c.if-not-form.true

@@ -1,12 +1,15 @@
+use mathlib.Core.Path.{refl}
 use native.Mathlib.Omega.{arith}
 use borrow.Author.Rules.{rules}
+use Rattle.bookform.specs.Books.{fresh_marks}
 use Rattle.journal.proofs.Rests.{call_rest}
 use Rattle.places.proofs.Places.{next_further}
 use Rattle.journal.proofs.Leaving.{to_none, to_next, to_end}
-use Rattle.journal.proofs.book_after.Goals as goal
+use Rattle.journal.proofs.left_by.Goals as goal
 
 pub loop-at-init : goal.loop-at-init
-loop-at-init c = (to_none c.args.s.now _ _ _ _ c.new-b.ensures c.requires.0 c.requires.1 c.requires.2, search rules, search rules, search rules)
+unfolding fresh_marks
+loop-at-init c = (to_none c.args.s.now _ fresh_marks fresh_marks fresh_marks c.new-book.ensures refl refl refl, search rules, search rules, search rules)
 
 pub slice_bounds-call-count : goal.slice_bounds-call-count
 slice_bounds-call-count c = omega (arith, c.loop-at.invariant.0.within)
