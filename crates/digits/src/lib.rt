@@ -23,10 +23,8 @@ pub fn digit(n: usize, d: usize, i: usize) -> u8
     ensures { result ≡ get_or (decimal n) i 0 }
 {
     let mut rest = n;
-    let mut last = d - 1;
-    while i < last {
+    for _ in i + 1..d {
         rest = rest / 10;
-        last -= 1;
     }
     48 + (rest % 10) as u8
 }
@@ -45,8 +43,5 @@ pub fn sign(z: i32) -> u8
 pub fn size(z: i32) -> usize
     ensures { result ≡ nat_abs z }
 {
-    if z < 0 {
-        return (0 - z as i64) as usize;
-    }
-    z as usize
+    z.unsigned_abs() as usize
 }

@@ -1,15 +1,14 @@
 -- What the program makes of its input.
-use Rattle.std.specs.Prelude.{ℕ, zero, suc, ◌+◌, ◌≤◌, ◌≡◌, true, false, not, List, length, take, Result, Ok, Err}
-use Rattle.std.specs.declared.io.Error.{Error}
-use Rattle.input.specs.declared.Input.{Input}
+use Rattle.std.specs.Prelude.{ℕ, ◌≤◌, ◌<◌, ◌≡◌, List, length, take, Option, Result, Ok, Err}
+use Rattle.std.specs.Io.KnownBytes.{Consumes, IsAtEnd}
+use Rattle.input.specs.declared.Failure.{Failure}
 
--- The input r after a read that answered z, where it was i before: a read that failed is told, or made again; 0 is the end of
--- the input; else there are so many bytes more.
-abbrev pub Heard : Result ℕ Error → Input → Input → Type 0
-Heard (Err e) i r = (r.n ≡ i.n) × (r.failed ≡ not r.«open»)
-Heard (Ok zero) i r = (r.n ≡ i.n) × (r.failed ≡ false) × (r.«open» ≡ false)
-Heard (Ok (suc k)) i r = (r.n ≡ i.n + suc k) × (r.failed ≡ false) × (r.«open» ≡ true)
+-- The first n of xs are n, and an input that held old gave them, and nothing else, and holds new.
+pub record Gave (old new : Option (List ℕ)) (xs : List ℕ) (n : ℕ) : Type 0 where
+  pub within : n ≤ length xs
+  pub consumed : Consumes old new (take n xs)
 
--- The first n of xs are n.
-abbrev pub IsPrefixLen : ℕ → List ℕ → Type 0
-IsPrefixLen n xs = (n ≤ length xs) × (n ≡ length (take n xs))
+-- What was read into xs. Where no read failed and there was room for more, the input is at its end.
+abbrev pub HasRead : Option (List ℕ) → Option (List ℕ) → List ℕ → Result ℕ Failure → Type 0
+HasRead old new xs (Ok n) = Gave old new xs n × (n < length xs → IsAtEnd new)
+HasRead old new xs (Err e) = Gave old new xs e.n

@@ -1,24 +1,22 @@
--- The pieces of a line: what they are, joined, how many there are, and that none is empty.
-use Prim.Native.Nat.{ℕ, zero, suc, ◌+◌, ◌<◌}
+-- The pieces of a line: what they are, joined, and that none is empty.
+use Prim.Native.Nat.{ℕ, zero, suc, ◌<◌}
 use mathlib.Core.Path.{◌≡◌, refl, sym, ap, subst}
 use mathlib.Core.List.{List, [], ◌∷◌, ◌++◌}
 use native.Mathlib.Omega.{arith}
 use lib.ListN.{length, get_or}
+use Rattle.sorts.specs.Refusals.{refusal_number}
 use Rattle.frames.specs.declared.Kind.{Kind}
 use Rattle.frames.specs.Frames.{letters_of}
 use Rattle.frames.proofs.Letters.{two_letters}
-use Rattle.marks.specs.declared.Counts.{Counts}
 use Rattle.digits.specs.Decimals.{decimal}
-use Rattle.pieces.specs.Words.{space, newline, marks_word}
-use Rattle.pieces.specs.Pieces.{each, last_number, net_pieces}
-use Rattle.pieces.proofs.Placing.{last_length, then_length}
+use Rattle.pieces.specs.Words.{newline}
 use Rattle.lines.specs.declared.Line.{Line}
 use Rattle.lines.specs.declared.Line.TheVariants as line
 use Rattle.lines.specs.declared.Said.{Said}
 use Rattle.lines.specs.declared.Said.TheVariants as says
+use Rattle.pieces.specs.Pieces.{each, last_number}
 use Rattle.lines.specs.Pieces.{said_pieces, line_pieces, joined}
 
--- pieces, joined
 pub each_joined : (xs : List ℕ) (ps : List (List ℕ)) → joined (each xs ++ ps) ≡ xs ++ joined ps
 unfolding each joined
 each_joined [] ps = refl
@@ -32,41 +30,7 @@ pub joined_none : joined [] ≡ []
 unfolding joined
 joined_none = refl
 
--- how many pieces
-module _ (s : Said) (k : Kind) where
-  pub changed_length : (c : Counts) → s ≡ says.Changed k c → length (said_pieces s) ≡ length (net_pieces c) + 2
-  unfolding said_pieces
-  changed_length c e = rw e (omega arith)
-
-  pub permitted_length : s ≡ says.Permitted k → length (said_pieces s) ≡ 3
-  unfolding said_pieces
-  permitted_length e = rw e (omega arith)
-
-  pub open_length : s ≡ says.Open k → length (said_pieces s) ≡ 3
-  unfolding said_pieces
-  open_length e = rw e (omega arith)
-
-  pub not_permitted_length : s ≡ says.NotPermitted k → length (said_pieces s) ≡ 3
-  unfolding said_pieces
-  not_permitted_length e = rw e (omega arith)
-
-pub refusal_length : (s : Said) (k : ℕ) → s ≡ says.Refused k → length (said_pieces s) ≡ length (decimal k) + 2
-unfolding said_pieces
-refusal_length s k e = rw e (omega (arith, last_length (decimal k)))
-
-pub record_length : (l : Line) (n : ℕ) (s : Said) → l ≡ line.Record n s → length (line_pieces l) ≡ length (decimal n) + 1 + length (said_pieces s)
-unfolding line_pieces
-record_length l n s e = rw e (then_length (decimal n) space (said_pieces s))
-
-pub end_length : (l : Line) (n m : ℕ) → l ≡ line.End n m → length (line_pieces l) ≡ length (decimal n) + length (decimal m) + 3
-unfolding line_pieces
-end_length l n m e = rw e (omega (arith, then_length (decimal n) marks_word (last_number m), last_length (decimal m)))
-
-pub refused_length : (l : Line) (k : ℕ) → l ≡ line.Refused k → length (line_pieces l) ≡ length (decimal k) + 2
-unfolding line_pieces
-refused_length l k e = rw e (omega (arith, last_length (decimal k)))
-
--- No piece of a line is empty: what is past a line's last piece, and that alone, is no byte.
+-- No piece of a line is empty.
 Full : List (List ℕ) → Type 0
 Full ps = (i : ℕ) → i < length ps → get_or ps i [] ≡ [] → ⊥
 
@@ -96,13 +60,13 @@ said_full (says.Changed k c) = letters_full k _ (cons_full _ _ _ (each_full _ _ 
 said_full (says.Permitted k) = letters_full k _ (cons_full _ _ _ (cons_full _ _ [] none_full))
 said_full (says.Open k) = letters_full k _ (cons_full _ _ _ (cons_full _ _ [] none_full))
 said_full (says.NotPermitted k) = letters_full k _ (cons_full _ _ _ (cons_full _ _ [] none_full))
-said_full (says.Refused k) = cons_full _ _ _ (last_full k)
+said_full (says.Refused k) = cons_full _ _ _ (last_full (refusal_number k))
 
 line_full : (l : Line) → Full (line_pieces l)
 unfolding line_pieces
 line_full (line.Record n s) = each_full (decimal n) _ (cons_full _ _ _ (said_full s))
 line_full (line.End n m) = cons_full _ _ _ (each_full (decimal n) _ (cons_full _ _ _ (last_full m)))
-line_full (line.Refused k) = cons_full _ _ _ (last_full k)
+line_full (line.Refused k) = cons_full _ _ _ (last_full (refusal_number k))
 
 pub piece_some : (l : Line) (i : ℕ) → i < length (line_pieces l) → get_or (line_pieces l) i [] ≡ [] → ⊥
 unfolding Full

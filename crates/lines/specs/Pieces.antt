@@ -1,5 +1,6 @@
 -- The pieces of a line: what is written at once, in order.
-use Rattle.std.specs.Prelude.{ℕ, ◌<◌, ◌≡◌, List, [], ◌∷◌, ◌++◌, length}
+use Rattle.std.specs.Prelude.{ℕ, ◌≡◌, List, [], ◌∷◌, ◌++◌}
+use Rattle.sorts.specs.Refusals.{refusal_number}
 use Rattle.frames.specs.Frames.{letters_of}
 use Rattle.digits.specs.Decimals.{decimal}
 use Rattle.pieces.specs.Words.{space, newline, permitted, open_word, not_permitted, refused_word, end_word, marks_word}
@@ -15,13 +16,13 @@ said_pieces (says.Changed k c) = letters_of k ∷ space ∷ net_pieces c
 said_pieces (says.Permitted k) = letters_of k ∷ permitted ∷ newline ∷ []
 said_pieces (says.Open k) = letters_of k ∷ open_word ∷ newline ∷ []
 said_pieces (says.NotPermitted k) = letters_of k ∷ not_permitted ∷ newline ∷ []
-said_pieces (says.Refused k) = refused_word ∷ last_number k
+said_pieces (says.Refused k) = refused_word ∷ last_number (refusal_number k)
 
 -- THE PIECES of a line.
 unfoldable pub line_pieces : Line → List (List ℕ)
 line_pieces (line.Record n s) = each (decimal n) ++ (space ∷ said_pieces s)
 line_pieces (line.End n m) = end_word ∷ (each (decimal n) ++ (marks_word ∷ last_number m))
-line_pieces (line.Refused k) = refused_word ∷ last_number k
+line_pieces (line.Refused k) = refused_word ∷ last_number (refusal_number k)
 
 -- Pieces, joined.
 unfoldable pub joined : List (List ℕ) → List ℕ
@@ -31,7 +32,3 @@ joined (p ∷ ps) = p ++ joined ps
 -- The pieces of a line, joined, are the bytes w.
 pub record Carries (l : Line) (w : List ℕ) : Type 0 where
   pub text : joined (line_pieces l) ≡ w
-
--- Piece i of a line is one of its pieces, and i + 1 is a number of the machine.
-abbrev pub Next : Line → ℕ → Type 0
-Next l i = (i < length (line_pieces l)) × (length (line_pieces l) < 18446744073709551616)

@@ -1,6 +1,6 @@
 -- What the program writes.
-use Rattle.std.specs.Prelude.{ℕ, Option, List}
-use Rattle.std.specs.Io.KnownBytes.{Appends}
+use Rattle.std.specs.Prelude.{ℕ, ◌≤◌, List, length, Option}
+use Rattle.std.specs.Io.KnownBytes.{Appends, Consumes, IsAtEnd}
 use Rattle.lines.specs.Pieces.{joined}
 use Rattle.listings.specs.Listings.{Listed}
 
@@ -9,3 +9,10 @@ pub record TookListing (s : List ℕ) (old new : Option (List ℕ)) : Type 0 whe
   pub lines : List (List ℕ)
   pub listed : Listed s lines
   pub appended : Appends old new (joined lines)
+
+-- An input that held given gave a journal s, and holds left; it is at its end, but where s is too long. The output took the listing of s.
+pub record Lists (given left old new : Option (List ℕ)) : Type 0 where
+  pub s : List ℕ
+  pub consumed : Consumes given left s
+  pub ended : length s ≤ 65536 → IsAtEnd left
+  pub took : TookListing s old new

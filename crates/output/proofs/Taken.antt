@@ -1,7 +1,6 @@
--- What an output took, one after another.
-use Rattle.std.proofs.Common.{ℕ, zero, suc, ◌+◌, ◌<◌, ◌≡◌, Bool, true, false, List, [], ◌∷◌, ◌++◌, length, get_or, take, Option, arith, refl, sym, ap, ◌∙◌, append-nil, append_assoc, add-one}
+-- What an output took, one piece after another.
+use Rattle.std.proofs.Common.{ℕ, ◌+◌, ◌<◌, ◌≡◌, zero, suc, List, [], ◌∷◌, ◌++◌, length, get_or, take, Option, arith, refl, sym, ap, ◌∙◌, subst, append-nil, append_assoc, add-one}
 use Rattle.std.specs.Io.KnownBytes.{Appends}
-use Rattle.std.proofs.KnownBytes.{Appends-trans}
 use Rattle.lines.specs.Pieces.{joined}
 
 joined_suc : (ps : List (List ℕ)) (i : ℕ) → i < length ps → joined (take (suc i) ps) ≡ joined (take i ps) ++ get_or ps i []
@@ -18,7 +17,7 @@ pub none_joined : (ps : List (List ℕ)) (i : ℕ) → i ≡ 0 → joined (take 
 unfolding joined
 none_joined ps i e = rw e refl
 
--- An output that took a piece had taken those before it.
-pub took : (a b c : Option (List ℕ)) (xs ys : List ℕ) (p q : Bool) → (p ≡ false → q ≡ false) → (p ≡ true → Appends a b xs) → (q ≡ true → Appends b c ys) → q ≡ true → Appends a c (xs ++ ys)
-took a b c xs ys true q s f g e = Appends-trans a b c xs ys (f refl) (g e)
-took a b c xs ys false q s f g e = let z = s refl in cc
+-- The bytes of one piece.
+pub appends_one : (a b : Option (List ℕ)) (p : List ℕ) → Appends a b p → Appends a b (joined (p ∷ []))
+unfolding joined
+appends_one a b p x = subst (Appends a b) (sym (append-nil p)) x

@@ -1,108 +1,154 @@
-// A line written to an output, piece by piece. An output that failed is handed nothing more.
+// A line written to an output, piece by piece: the letters, the sign and each digit in a write of its own. An output that failed is
+// handed nothing more.
 #![tactic(auto)]
 
-ghost use Rattle.std.specs.Prelude.{true, false, ◌≡◌, [], ◌+◌, length, get_or};
-ghost use Rattle.std.specs.Io.KnownBytes.{Keeps, Appends};
-ghost use Rattle.lines.specs.Pieces.{Next, line_pieces, joined};
-ghost use Rattle.pieces.specs.Pieces.{word_bytes};
+ghost use Rattle.std.specs.Prelude.{ℕ, List, [], ◌∷◌, ◌++◌, OnOk};
+ghost use Rattle.std.specs.Io.KnownBytes.{Appends};
+ghost use Rattle.sorts.specs.Refusals.{refusal_number};
+ghost use Rattle.frames.specs.Frames.{letters_of};
+ghost use Rattle.digits.specs.Decimals.{decimal, signed};
+ghost use Rattle.pieces.specs.Words.{space, newline, refused_word, end_word, marks_word};
+ghost use Rattle.pieces.specs.Pieces.{each, last_number};
+ghost use Rattle.lines.specs.declared.Said.TheVariants.{Changed};
+ghost use Rattle.lines.specs.Pieces.{said_pieces, line_pieces, joined};
+ghost use Rattle.output.specs.Pieces.{none_taken, more_taken};
 
-use lines::{Line, sizes};
-use pieces::{Piece, Word};
-use std::io::Write;
+use frames::Kind;
+use lines::{Line, Said};
+use marks::Counts;
+use sorts::Refusal;
+use std::io;
+use std::io::{ErrorKind, Write};
 
-// How many pieces of a line were handed to the output, and whether it took them all.
-#[derive(Clone, Copy)]
-pub struct Handed {
-    pub pieces: usize,
-    pub open: bool,
+// What takes pieces, each at once.
+pub trait PieceOutput {
+    // What it was, and what it is after it took these pieces in their order.
+    ghost took: { Self → Self → List (List ℕ) → Type 0 };
+
+    fn put(&mut self, piece: &[u8]) -> io::Result<()>
+        ensures { OnOk result (took self.old self.new (piece.now ∷ [])) };
+
+    ghost took_none: { (a : Self) → took a a [] };
+
+    ghost took_more: { (a b c : Self) (ps qs : List (List ℕ)) → took a b ps → took b c qs → took a c (ps ++ qs) };
 }
 
-// Writes bytes, and says whether the output took them all. A write that fails or takes nothing is the last: none is made again.
-fn write_whole<W: Write>(out: &mut W, bytes: &[u8]) -> bool
-    ensures { result ≡ true → Appends (W.contents out.old) (W.contents out.new) bytes.now }
-{
-    let mut done = 0;
-    while done < bytes.len() {
-        match out.write(&bytes[done..]) {
-            Ok(0) => return false,
-            Ok(n) => done += n,
-            Err(_) => return false,
+// An output takes the bytes of a piece.
+impl<W: Write> PieceOutput for W {
+    ghost took = { λ a b ps. Appends (W.contents a) (W.contents b) (joined ps) };
+
+    ghost took_none = { λ a. none_taken (W.contents a) };
+
+    ghost took_more = { λ a b c ps qs x y. more_taken (W.contents a) (W.contents b) (W.contents c) ps qs x y };
+
+    // A write that fails or takes nothing is the last: none is made again, as `write_all` would one that was interrupted.
+    fn put(&mut self, piece: &[u8]) -> io::Result<()> {
+        let mut done = 0;
+        while done < piece.len() {
+            let n = self.write(&piece[done..])?;
+            if n == 0 {
+                return Err(io::Error::from(ErrorKind::WriteZero));
+            }
+            done += n;
         }
-    }
-    true
-}
-
-// Writes the next piece of a line, where the output took those before it.
-fn put<W: Write>(out: &mut W, h: Handed, l: Line, bytes: &[u8]) -> Handed
-    requires next { Next l h.pieces }
-    requires piece { bytes.now ≡ get_or (line_pieces l) h.pieces [] }
-    ensures counted { result.pieces ≡ h.pieces + 1 }
-    ensures closed { h.open ≡ false → result.open ≡ false }
-    ensures nothing_more { h.open ≡ false → Keeps (W.contents out.old) (W.contents out.new) }
-    ensures written { result.open ≡ true → Appends (W.contents out.old) (W.contents out.new) bytes.now }
-{
-    let pieces = h.pieces + 1;
-    let open = h.open;
-    if !open {
-        return Handed {
-            pieces,
-            open: false,
-        };
-    }
-    let open = write_whole(out, bytes);
-    Handed { pieces, open }
-}
-
-// Writes a word that is the next piece of a line.
-fn put_word<W: Write>(out: &mut W, h: Handed, l: Line, w: Word) -> Handed
-    requires next { Next l h.pieces }
-    requires piece { word_bytes w ≡ get_or (line_pieces l) h.pieces [] }
-    ensures counted { result.pieces ≡ h.pieces + 1 }
-    ensures closed { h.open ≡ false → result.open ≡ false }
-    ensures nothing_more { h.open ≡ false → Keeps (W.contents out.old) (W.contents out.new) }
-    ensures written { result.open ≡ true → Appends (W.contents out.old) (W.contents out.new) (word_bytes w) }
-{
-    match w {
-        Word::Space => put(out, h, l, b" "),
-        Word::Newline => put(out, h, l, b"\n"),
-        Word::Permitted => put(out, h, l, b" permitted"),
-        Word::Open => put(out, h, l, b" open"),
-        Word::NotPermitted => put(out, h, l, b" not permitted"),
-        Word::Refused => put(out, h, l, b"refused "),
-        Word::End => put(out, h, l, b"end "),
-        Word::Marks => put(out, h, l, b" marks "),
+        Ok(())
     }
 }
 
-// Writes the next piece of a line: a sign or a digit, the letters, or a word.
-fn put_piece<W: Write>(out: &mut W, h: Handed, l: Line) -> Handed
-    requires { Next l h.pieces }
-    ensures counted { result.pieces ≡ h.pieces + 1 }
-    ensures closed { h.open ≡ false → result.open ≡ false }
-    ensures nothing_more { h.open ≡ false → Keeps (W.contents out.old) (W.contents out.new) }
-    ensures written { result.open ≡ true → Appends (W.contents out.old) (W.contents out.new) (get_or (line_pieces l) h.pieces []) }
+// Writes a number, digit by digit.
+fn write_digits<P: PieceOutput>(out: &mut P, n: usize) -> io::Result<()>
+    ensures { OnOk result (P.took out.old out.new (each (decimal n))) }
 {
-    let p = lines::piece_at(l, h.pieces);
-    match p {
-        Piece::Byte(b) => put(out, h, l, &[b]),
-        Piece::Letters(k) => put(out, h, l, &k.letters()),
-        Piece::Word(w) => put_word(out, h, l, w),
-        Piece::Past => h,
+    let d = digits::count(n);
+    for i in 0..d {
+        out.put(&[digits::digit(n, d, i)])?;
+    }
+    Ok(())
+}
+
+// Writes a number, and the word after it.
+fn write_number<P: PieceOutput>(out: &mut P, n: usize, word: &[u8]) -> io::Result<()>
+    ensures { OnOk result (P.took out.old out.new (each (decimal n) ++ (word.now ∷ []))) }
+{
+    write_digits(out, n)?;
+    out.put(word)
+}
+
+// Writes a net after a space: its sign, then its digits.
+fn write_net<P: PieceOutput>(out: &mut P, z: i32) -> io::Result<()>
+    ensures { OnOk result (P.took out.old out.new (space ∷ each (signed z))) }
+{
+    out.put(b" ")?;
+    out.put(&[digits::sign(z)])?;
+    write_digits(out, digits::size(z))
+}
+
+// Writes what a line says of a change, and the line's end: the letters, and the two nets.
+fn write_change<P: PieceOutput>(out: &mut P, k: Kind, c: Counts) -> io::Result<()>
+    ensures { OnOk result (P.took out.old out.new (said_pieces (Changed k c))) }
+{
+    out.put(&k.letters())?;
+    write_net(out, c.truths.net)?;
+    write_net(out, c.sayings.net)?;
+    out.put(b"\n")
+}
+
+// Writes what a line says of a query, and the line's end: the letters, and the word of the answer.
+fn write_answer<P: PieceOutput>(out: &mut P, k: Kind, word: &[u8]) -> io::Result<()>
+    ensures { OnOk result (P.took out.old out.new (letters_of k ∷ word.now ∷ newline ∷ [])) }
+{
+    out.put(&k.letters())?;
+    out.put(word)?;
+    out.put(b"\n")
+}
+
+// Writes a refusal, and the line's end.
+fn write_refusal<P: PieceOutput>(out: &mut P, k: Refusal) -> io::Result<()>
+    ensures { OnOk result (P.took out.old out.new (refused_word ∷ last_number (refusal_number k))) }
+{
+    out.put(b"refused ")?;
+    write_number(out, u8::from(k) as usize, b"\n")
+}
+
+// Writes what a record's line says.
+fn write_said<P: PieceOutput>(out: &mut P, s: Said) -> io::Result<()>
+    ensures { OnOk result (P.took out.old out.new (said_pieces s)) }
+{
+    match s {
+        Said::Changed(k, c) => write_change(out, k, c),
+        Said::Permitted(k) => write_answer(out, k, b" permitted"),
+        Said::Open(k) => write_answer(out, k, b" open"),
+        Said::NotPermitted(k) => write_answer(out, k, b" not permitted"),
+        Said::Refused(k) => write_refusal(out, k),
     }
 }
 
-// Writes the pieces of a line, one after another, from the first on.
-pub fn write_line<W: Write>(out: &mut W, start: Handed, l: Line) -> Handed
-    requires { start.pieces ≡ 0 }
-    ensures counted { result.pieces ≡ length (line_pieces l) }
-    ensures closed { start.open ≡ false → result.open ≡ false }
-    ensures nothing_more { start.open ≡ false → Keeps (W.contents out.old) (W.contents out.new) }
-    ensures written { result.open ≡ true → Appends (W.contents out.old) (W.contents out.new) (joined (line_pieces l)) }
+// Writes the last line.
+fn write_end<P: PieceOutput>(out: &mut P, n: usize, marks: usize) -> io::Result<()>
+    ensures { OnOk result (P.took out.old out.new (end_word ∷ (each (decimal n) ++ (marks_word ∷ last_number marks)))) }
 {
-    let n = sizes::of_line(l);
-    let mut h = start;
-    while h.pieces < n {
-        h = put_piece(out, h, l);
+    out.put(b"end ")?;
+    write_number(out, n, b" marks ")?;
+    write_number(out, marks, b"\n")
+}
+
+// Writes a line: its pieces, in their order.
+pub fn put_line<P: PieceOutput>(out: &mut P, l: Line) -> io::Result<()>
+    ensures { OnOk result (P.took out.old out.new (line_pieces l)) }
+{
+    match l {
+        Line::Record(n, s) => {
+            write_number(out, n, b" ")?;
+            write_said(out, s)
+        }
+        Line::End(n, marks) => write_end(out, n, marks),
+        Line::Refused(k) => write_refusal(out, k),
     }
-    h
+}
+
+// Writes a line to an output of bytes.
+pub fn write_line<W: Write>(out: &mut W, l: Line) -> io::Result<()>
+    ensures { OnOk result (Appends (W.contents out.old) (W.contents out.new) (joined (line_pieces l))) }
+{
+    put_line(out, l)
 }

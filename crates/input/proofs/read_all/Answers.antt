@@ -1,21 +1,27 @@
-use Rattle.std.proofs.Common.{◌≡◌, ℕ, ◌≤◌, List, ◌++◌, take, drop, arith, rules, refl, sym, ap, ◌∙◌, subst, take-append-drop}
-use Rattle.std.proofs.lemmas.List.{take-take}
-use Rattle.std.specs.Io.KnownBytes.{Consumes}
+use Rattle.std.proofs.Common.{◌≡◌, ℕ, ◌+◌, ◌-◌, ◌≤◌, List, ◌++◌, length, take, drop, arith, rules, sym, ap, ◌∙◌, subst, drop_at, length-take-le}
+use Rattle.std.proofs.Math.Seq.{take-add}
+use Rattle.std.proofs.lemmas.List.{take-append-le}
 use Rattle.std.proofs.KnownBytes.{Consumes-trans}
+use Rattle.std.specs.Io.KnownBytes.{Consumes}
+use borrow.Rule.Slice.PartMut.{put_mid, post_of, take_put}
 use Rattle.input.proofs.read_all.Goals as goal
 
--- The bytes read before and those read now are those read.
-together : (n m : ℕ) (old new : List ℕ) → n ≤ m → take n new ≡ take n old → take n old ++ drop n (take m new) ≡ take m new
-together n m old new h kept =
-    ap (λ xs. xs ++ drop n (take m new)) (sym kept ∙ sym (take-take n m new h)) ∙ take-append-drop n (take m new)
+-- Those read before, and those that a read put after them.
+together : (a n k : ℕ) (xs ys : List ℕ) → a ≤ length xs → n ≤ length ys → take a xs ++ take n ys ≡ take (a + n) (put_mid a k xs ys)
+together a n k xs ys within fits =
+    let after : take n (drop a (put_mid a k xs ys)) ≡ take n ys = ap (take n) (drop_at (take a xs) _ a (length-take-le a xs within)) ∙ take-append-le n ys (post_of a k xs) fits in
+    let before : take a (put_mid a k xs ys) ≡ take a xs = take_put a k xs ys within in
+    sym (take-add a n (put_mid a k xs ys) ∙ (λ i. before i ++ after i))
 
-pub loop-open-preserved : goal.loop-open-preserved
-loop-open-preserved g c =
-    let r = c.read_some-i in
-    let here = c.loop-open in (
-      search rules,
-      omega (arith, r.ensures.high),
-      refl,
-      subst (Consumes _ _) (together here.i.n r.result.n here.buf r.new.buf r.ensures.low r.ensures.kept) (Consumes-trans _ _ _ _ _ here.invariant.3 r.ensures.bytes),
-      λ p q s. r.ensures.end p q (omega (arith, s)),
+pub loop-n-preserved-in-Ok : goal.loop-n-preserved-in-Ok
+loop-n-preserved-in-Ok g c =
+    let here = c.loop-n in
+    let put = put_mid here.n (length here.buf - here.n) here.buf c.read.new.buf in
+    let long : length put ≡ length c.args.buf.now = search rules in
+    let all = together here.n c.in-Ok.more (length here.buf - here.n) here.buf c.read.new.buf here.invariant.1.within (omega (arith, c.in-Ok.ensures.bound)) in (
+      long,
+      record {
+        within = omega (arith, long, here.invariant.0, c.in-Ok.ensures.bound);
+        consumed = subst (Consumes _ _) all (Consumes-trans _ _ _ _ _ here.invariant.1.consumed (c.in-Ok.ensures.bytes.0));
+      },
     )
