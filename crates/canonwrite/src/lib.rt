@@ -127,7 +127,8 @@ fn put_grant(s: &[u8], at: usize, left: u8, out: &mut [u8], to: usize) -> Place
     put_concl(s, cs.at, below, out, cs.to)
 }
 
-// The form of the grant that the bytes open with, written into a buffer that has room for the longest one; none where it has not.
+// The form of the grant that the bytes open with, written into a buffer that has room for the longest one; none where it has not. A
+// buffer of any length is lent: an array would ask more of who lends it.
 pub fn write_grant(s: &[u8], out: &mut [u8]) -> Option<Place>
     ensures { Answers most_grant (put_grant depths s.now 0 out.old 0) out.old out.new result }
 {
