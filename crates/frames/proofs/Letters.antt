@@ -51,10 +51,10 @@ opens_own Cf = refl
 opens_own Pv = refl
 
 -- two letters open a kind exactly where they are its letters
-pub opens_same : (k : Kind) (l : List ℕ) → letters_of k ≡ l → opens k (get_or l 0 0) (get_or l 1 0) ≡ true
+opens_same : (k : Kind) (l : List ℕ) → letters_of k ≡ l → opens k (get_or l 0 0) (get_or l 1 0) ≡ true
 opens_same k l e = subst (λ (x : List ℕ). opens k (get_or x 0 0) (get_or x 1 0) ≡ true) e (opens_own k)
 
-pub opens_other : (k : Kind) (l : List ℕ) → length l ≡ 2 → (letters_of k ≡ l → ⊥) → opens k (get_or l 0 0) (get_or l 1 0) ≡ false
+opens_other : (k : Kind) (l : List ℕ) → length l ≡ 2 → (letters_of k ≡ l → ⊥) → opens k (get_or l 0 0) (get_or l 1 0) ≡ false
 opens_other k [] n d = absurd (omega arith)
 opens_other k (a ∷ []) n d = absurd (omega arith)
 opens_other k (a ∷ b ∷ c ∷ l) n d = absurd (omega arith)
@@ -63,6 +63,11 @@ opens_other k (a ∷ b ∷ []) n d = go (opens k a b) refl
     go : (t : Bool) → opens k a b ≡ t → opens k a b ≡ false
     go true e = absurd (d (sym (letters_are k a b e)))
     go false e = e
+
+-- whether they are the same decides whether they open it
+pub opens_is : (k : Kind) (l : List ℕ) (b : Bool) → length l ≡ 2 → (b ≡ true → letters_of k ≡ l) → (b ≡ false → letters_of k ≡ l → ⊥) → b ≡ opens k (get_or l 0 0) (get_or l 1 0)
+opens_is k l true n f g = sym (opens_same k l (f refl))
+opens_is k l false n f g = sym (opens_other k l n (g refl))
 
 -- no kind before it has them
 pub kind_again : (k : Kind) (n : ℕ) → kind_with kinds (first k) (second k) n ≡ got k n

@@ -1,41 +1,40 @@
 -- The two mark bytes.
 use Prim.Native.Nat.{ℕ, ◌+◌, ◌<◌, ◌≤◌}
-use mathlib.Core.Path.{◌≡◌, refl}
+use mathlib.Core.Path.{◌≡◌, refl, sym, ap, ◌∙◌}
 use mathlib.Core.Bool.{Bool, true, false, cond}
-use mathlib.Core.List.{List, ◌∷◌}
-use native.Mathlib.Numerals.{add-one}
+use mathlib.Core.List.{List, [], ◌∷◌}
 use native.Mathlib.Omega.{arith}
-use lib.ListN.{length, get_or, drop}
-use Rattle.std.specs.Prelude.{Result, Ok, Err}
-use lib.Seq.{drop-cons}
+use lib.ListN.{length, get_or}
+use Rattle.std.specs.Prelude.{Ok, Err, Option, None, Some}
+use Rattle.std.specs.List.{find}
+use Rattle.std.specs.Option.{ok_or}
 use lib.Dec.{ltb}
 use borrow.Author.Tests.{lt-ltb, le-ltb}
 use Rattle.frames.specs.declared.Kind.{Kind}
-use Rattle.frames.specs.declared.Kind.TheVariants.{Tg}
 use Rattle.sorts.specs.declared.Refusal.{Refusal}
 use Rattle.sorts.specs.declared.Refusal.TheVariants.{Missing, Mark}
 use Rattle.ranges.specs.Bytes.{Outcome, got, refused, and_then, as_result, byte_at}
 use Rattle.frames.specs.Frames.{kinds, opens, kind_with, read_mark}
+use Rattle.frames.specs.Inner.Told.{Names}
 
--- Looking a kind up among those from place i on.
-module _ (a b n i : ℕ) (l : i < length kinds) where
-  kinds_from : drop i kinds ≡ get_or kinds i Tg ∷ drop (i + 1) kinds
-  kinds_from = rw add-one (drop-cons kinds i Tg l)
+-- Looking a kind up, as the library finds the first of a list that passes a test.
+abbrev outcome : ℕ → Option Kind → Outcome Kind
+outcome n None = refused Mark
+outcome n (Some k) = got k n
 
-  -- the kind at place i has these letters
-  pub kind_here : opens (get_or kinds i Tg) a b ≡ true → kind_with (drop i kinds) a b n ≡ got (get_or kinds i Tg) n
-  unfolding kind_with
-  kind_here e = rw (kinds_from, e)
-
-  -- or it has not
-  pub kind_on : opens (get_or kinds i Tg) a b ≡ false → kind_with (drop i kinds) a b n ≡ kind_with (drop (i + 1) kinds) a b n
-  unfolding kind_with
-  kind_on e = rw (kinds_from, e)
-
--- no kind is left
-pub kind_end : (a b n i : ℕ) → i ≤ length kinds → length kinds ≤ i → kind_with (drop i kinds) a b n ≡ refused Mark
+kind_found : (ks : List Kind) (a b n : ℕ) → kind_with ks a b n ≡ outcome n (find (λ k. opens k a b) ks)
 unfolding kind_with
-kind_end a b n i l h = let e : i ≡ length kinds = omega arith in rw e
+kind_found [] a b n = refl
+kind_found (k ∷ ks) a b n = go (opens k a b) (kind_found ks a b n)
+  where
+    go : (t : Bool) → kind_with ks a b n ≡ outcome n (find (λ j. opens j a b) ks) → cond t (got k n) (kind_with ks a b n) ≡ outcome n (cond t (Some k) (find (λ j. opens j a b) ks))
+    go true e = refl
+    go false e = e
+
+-- what is found among all kinds is the kind that the letters say
+pub found_names : (l : List ℕ) (o : Option Kind) → o ≡ find (λ k. opens k (get_or l 0 0) (get_or l 1 0)) kinds → Names l (ok_or o Mark)
+found_names l None e = kind_found kinds (get_or l 0 0) (get_or l 1 0) 2 ∙ ap (outcome 2) (sym e)
+found_names l (Some k) e = kind_found kinds (get_or l 0 0) (get_or l 1 0) 2 ∙ ap (outcome 2) (sym e)
 
 -- fewer than two bytes
 pub mark_short : (s : List ℕ) → length s < 2 → Err Missing ≡ as_result (read_mark s)

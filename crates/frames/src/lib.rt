@@ -78,12 +78,10 @@ impl TryFrom<[u8; 2]> for Kind {
     ghost try_from_gives = { Names };
 
     fn try_from(letters: [u8; 2]) -> Result<Kind, Refusal> {
-        for k in Kind::ALL {
-            if k.letters() == letters {
-                return Ok(k);
-            }
-        }
-        Err(Refusal::Mark)
+        Kind::ALL
+            .into_iter()
+            .find(|k| k.letters() == letters)
+            .ok_or(Refusal::Mark)
     }
 }
 

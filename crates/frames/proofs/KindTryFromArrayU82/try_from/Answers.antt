@@ -1,18 +1,23 @@
-use Rattle.std.proofs.Common.{◌≡◌, rules, sym, ap, ◌∙◌}
-use Rattle.frames.specs.Frames.{letters_of}
-use Rattle.frames.proofs.Letters.{opens_same, opens_other}
-use Rattle.frames.proofs.Marks.{kind_here, kind_on, kind_end}
+use mathlib.Core.Path.{◌≡◌, sym, ap, ◌∙◌, subst}
+use lib.ListN.{get_or}
+use borrow.Author.Rules.{rules}
+use borrow.Author.Tests.{tests}
+use Rattle.std.specs.List.{find}
+use Rattle.std.specs.Array.Iter.{array_into_iter_items, array_steps}
+use Rattle.std.proofs.lemmas.Iterator.Adapters.{option_map_id}
+use Rattle.std.proofs.lemmas.Iterator.Consumers.{YieldsList-from_shown}
+use Rattle.std.proofs.lemmas.Iterator.Search.{find_from_yields_List}
+use Rattle.frames.specs.declared.Kind.{Kind}
+use Rattle.frames.specs.Frames.{kinds, opens}
+use Rattle.frames.specs.Inner.Told.{Names}
+use Rattle.frames.proofs.Letters.{opens_is}
+use Rattle.frames.proofs.Marks.{found_names}
 use Rattle.frames.proofs.KindTryFromArrayU82.try_from.Goals as goal
 
-pub returns-then-eq : goal.returns-then-eq
-returns-then-eq c =
-    let e : c.letters.result ≡ c.args.letters = search rules in
-    c.loop-k.invariant ∙ kind_here _ _ _ c.loop-k.k-index (search rules) (opens_same _ c.args.letters (sym c.letters.ensures ∙ e))
-
-pub loop-k-preserved : goal.loop-k-preserved
-loop-k-preserved c =
-    let d : (c.letters.result ≡ c.args.letters → ⊥) = search rules in
-    c.loop-k.invariant ∙ kind_on _ _ _ c.loop-k.k-index (search rules) (opens_other _ c.args.letters (search rules) (λ e. d (c.letters.ensures ∙ e)))
-
 pub returns : goal.returns
-returns c = c.loop-k.invariant ∙ kind_end _ _ _ c.loop-k.k-index (search rules) (search rules)
+returns c =
+    let l = c.args.letters in
+    let all : array_into_iter_items c.into_iter.result ≡ kinds = search rules in
+    let road = YieldsList-from_shown (array_steps {A = Kind} {n = 8}) (λ x. x) array_into_iter_items (λ s t h. h.0) (λ s x t h. h) c.into_iter.result in
+    let found = find_from_yields_List (λ k. opens k (get_or l 0 0) (get_or l 1 0)) _ _ c.find.result c.find.ensures.ran road (λ x b q k. (search rules, opens_is x l b (search rules) (λ e. search (rules, tests)) (λ e. search (rules, tests)))) in
+    subst (Names l) (sym c.ok_or.ensures.value) (found_names l c.find.result (sym (option_map_id c.find.result) ∙ found ∙ ap (find (λ k. opens k (get_or l 0 0) (get_or l 1 0))) all))
