@@ -5,7 +5,7 @@ use mathlib.Core.Path.{◌≡◌, refl, ◌∙◌, ap}
 use native.Mathlib.Omega.{arith}
 use native.Mathlib.Numerals.{add-one}
 use lib.ListN.{length, get_or, set, take, drop}
-use lib.Seq.{slice-cons, take-take}
+use lib.Seq.{drop-cons, take-take}
 use lib.ListN as list
 use Rattle.std.specs.declared.cmp.Ordering.TheVariants.{Less, Equal, Greater}
 use Rattle.std.specs.Prelude.{Option, Some, None, sum}
@@ -29,23 +29,23 @@ side_above Ordering.lt e = absurd (cc)
 side_above Ordering.eq e = absurd (cc)
 side_above Ordering.gt e = refl
 
-module _ (x out : List ℕ) (k at : ℕ) (l : List ℕ) (count : ℕ) (h : k < count) (f : count ≤ length l) where
+module _ (x out : List ℕ) (k at : ℕ) (l : List ℕ) (h : k < length l) where
   -- the next segment is looked at
-  seat_step : seat x out k at (drop k (take count l)) ≡ pick (order x (part at (at + get_or l k 0) out)) (Some (k, at)) None (seat x out (k + 1) (at + get_or l k 0) (drop (k + 1) (take count l)))
+  seat_step : seat x out k at (drop k l) ≡ pick (order x (part at (at + get_or l k 0) out)) (Some (k, at)) None (seat x out (k + 1) (at + get_or l k 0) (drop (k + 1) l))
   unfolding seat
-  seat_step = rw (add-one k) (ap (seat x out k at) (slice-cons k count l 0 h f) ∙ ap (λ (m : ℕ). pick (order x (part at (at + get_or l k 0) out)) (Some (k, at)) None (seat x out m (at + get_or l k 0) (drop (suc k) (take count l)))) (add-one k))
+  seat_step = rw (add-one k) (ap (seat x out k at) (drop-cons l k 0 h) ∙ ap (λ (m : ℕ). pick (order x (part at (at + get_or l k 0) out)) (Some (k, at)) None (seat x out m (at + get_or l k 0) (drop (suc k) l))) (add-one k))
 
   picked : (o : Ordering) → order x (part at (at + get_or l k 0) out) ≡ o
-      → seat x out k at (drop k (take count l)) ≡ pick o (Some (k, at)) None (seat x out (k + 1) (at + get_or l k 0) (drop (k + 1) (take count l)))
-  picked o e = seat_step ∙ ap (λ (p : Ordering). pick p (Some (k, at)) None (seat x out (k + 1) (at + get_or l k 0) (drop (k + 1) (take count l)))) e
+      → seat x out k at (drop k l) ≡ pick o (Some (k, at)) None (seat x out (k + 1) (at + get_or l k 0) (drop (k + 1) l))
+  picked o e = seat_step ∙ ap (λ (p : Ordering). pick p (Some (k, at)) None (seat x out (k + 1) (at + get_or l k 0) (drop (k + 1) l))) e
 
-  pub seat_below : ordering_of (order x (part at (at + get_or l k 0) out)) ≡ Less → seat x out k at (drop k (take count l)) ≡ Some (k, at)
+  pub seat_below : ordering_of (order x (part at (at + get_or l k 0) out)) ≡ Less → seat x out k at (drop k l) ≡ Some (k, at)
   seat_below e = picked Ordering.lt (side_below (order x (part at (at + get_or l k 0) out)) e)
 
-  pub seat_same : ordering_of (order x (part at (at + get_or l k 0) out)) ≡ Equal → seat x out k at (drop k (take count l)) ≡ None
+  pub seat_same : ordering_of (order x (part at (at + get_or l k 0) out)) ≡ Equal → seat x out k at (drop k l) ≡ None
   seat_same e = picked Ordering.eq (side_same (order x (part at (at + get_or l k 0) out)) e)
 
-  pub seat_above : ordering_of (order x (part at (at + get_or l k 0) out)) ≡ Greater → seat x out k at (drop k (take count l)) ≡ seat x out (k + 1) (at + get_or l k 0) (drop (k + 1) (take count l))
+  pub seat_above : ordering_of (order x (part at (at + get_or l k 0) out)) ≡ Greater → seat x out k at (drop k l) ≡ seat x out (k + 1) (at + get_or l k 0) (drop (k + 1) l)
   seat_above e = picked Ordering.gt (side_above (order x (part at (at + get_or l k 0) out)) e)
 
 -- none is left

@@ -57,8 +57,7 @@ pub fn seek(
     ensures { result ≡ seat (part to e out.now) out.now 0 b (take count lens) }
 {
     let mut at = b;
-    for k in 0..count {
-        let n = lens[k];
+    for (k, &n) in lens[..count].iter().enumerate() {
         match compare(out, to, e, at, at + n) {
             Ordering::Less => return Some((k, at)),
             Ordering::Equal => return None,

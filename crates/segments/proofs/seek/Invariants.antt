@@ -6,4 +6,7 @@ use Rattle.std.specs.Prelude.{sum}
 use Rattle.segments.proofs.seek.Given as goal
 
 abbrev pub invariant-loop-k : goal.invariant-loop-k
-invariant-loop-k l = (l.at + sum (drop l.k l.lens) ≤ l.to) × (seat (part l.to l.e l.out) l.out 0 l.b (take l.count l.lens) ≡ seat (part l.to l.e l.out) l.out l.k l.at (drop l.k (take l.count l.lens)))
+invariant-loop-k l =
+    let ns = take l.count l.fn.lens in
+    let x = part l.to l.e l.out in
+    (l.at + sum (drop l.k ns) ≤ l.to) × (seat x l.out 0 l.b ns ≡ seat x l.out l.k l.at (drop l.k ns))
