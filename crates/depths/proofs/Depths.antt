@@ -6,9 +6,12 @@ use mathlib.Core.Path.{◌≡◌, refl, sym, ap, ap₂, ◌∙◌}
 use mathlib.Core.Logic.{inl, inr}
 use native.Mathlib.Omega.{arith}
 use native.Mathlib.Nat.{not-suc-le-zero}
-use lib.ListN.{length, get_or, set, length-set, get_or-append, get_or-eq_default}
-use lib.Seq.{get_or-append_seam, get_or-set_same, get_or-set_other}
+use native.Mathlib.Numerals.{add-one}
+use lib.ListN.{length, get_or, set, drop, length-set, get_or-append, get_or-eq_default, drop_of_length-le}
+use lib.Seq.{drop-cons, get_or-append_seam, get_or-set_same, get_or-set_other}
 use lib.Dec.{ltb, leb}
+use Rattle.std.specs.List.{fold}
+use Rattle.std.proofs.Math.Nat.{max-zero}
 use borrow.Author.Tests.{leb-true, leb-false, ltb-true, ltb-false}
 use Rattle.sorts.specs.Numbers as numbers
 use Rattle.sorts.specs.declared.Res.{Res}
@@ -47,6 +50,19 @@ module _ (depths : List ℕ) (cs : List Cond) where
   conds_cut a zero m l b = conds_blank a m (λ j h. b j (omega arith))
   conds_cut a (suc n) zero l b = absurd (not-suc-le-zero l)
   conds_cut a (suc n) (suc m) l b = ap (max (depth_of_concl depths (get_or cs a blank_cond).what)) (conds_cut (a + 1) n m (omega arith) (λ j h. b j (omega arith)))
+
+-- a fold over the conditions from place i on finds the largest
+conds_folded : (depths : List ℕ) (cs : List Cond) (i k d : ℕ) → i + k ≡ length cs → fold (λ a c. max a (depth_of_concl depths c.what)) d (drop i cs) ≡ max d (depth_of_conds depths cs i k)
+unfolding depth_of_conds
+conds_folded depths cs i zero d e = ap (fold (λ a c. max a (depth_of_concl depths c.what)) d) (drop_of_length-le cs (omega arith)) ∙ sym (max-zero d)
+conds_folded depths cs i (suc k) d e =
+    let x = depth_of_concl depths (get_or cs i blank_cond).what in
+    let m : max (max d x) (depth_of_conds depths cs (i + 1) k) ≡ max d (max x (depth_of_conds depths cs (i + 1) k)) = omega arith in
+    let s : drop i cs ≡ get_or cs i blank_cond ∷ drop (i + 1) cs = rw add-one (drop-cons cs i blank_cond (omega arith)) in
+    ap (fold (λ a c. max a (depth_of_concl depths c.what)) d) s ∙ conds_folded depths cs (i + 1) k (max d x) (omega arith) ∙ m
+
+pub conds_fold : (depths : List ℕ) (cs : List Cond) → length cs ≡ numbers.conditions → fold (λ a c. max a (depth_of_concl depths c.what)) 0 cs ≡ depth_of_conds depths cs 0 numbers.conditions
+conds_fold depths cs e = let z : max 0 (depth_of_conds depths cs 0 numbers.conditions) ≡ depth_of_conds depths cs 0 numbers.conditions = omega arith in conds_folded depths cs 0 numbers.conditions 0 (sym e) ∙ z
 
 -- where the depths of the grants with numbers below i are right, so is that of a row that holds no others
 

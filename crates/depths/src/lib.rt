@@ -47,11 +47,7 @@ fn cond_depth(depths: [u8; Table::ROWS], c: Cond) -> u8
 fn conds_depth(depths: [u8; Table::ROWS], x: Row) -> u8
     ensures { result ≡ depth_of_conds depths x.conds 0 conditions }
 {
-    let c = x.conds;
-    let last = cond_depth(depths, c[3]);
-    let third = cond_depth(depths, c[2]).max(last);
-    let second = cond_depth(depths, c[1]).max(third);
-    cond_depth(depths, c[0]).max(second)
+    x.conds.iter().fold(0, |d, c| d.max(cond_depth(depths, *c)))
 }
 
 // The depth of the deepest grant that a row holds, 0 where it holds none.
