@@ -54,11 +54,11 @@ fn cond_key(c: Cond) -> u64
 fn row_key(x: Row) -> u64
     ensures { result ≡ row_key x }
 {
-    let c = x.conds;
-    let a = BASE * cond_key(c[0]) + cond_key(c[1]);
-    let b = BASE * a + cond_key(c[2]);
-    let d = BASE * b + cond_key(c[3]);
-    BASE * d + concl_key(x.head)
+    let mut k: u64 = 0;
+    for c in &x.conds {
+        k = BASE * k + cond_key(*c);
+    }
+    BASE * k + concl_key(x.head)
 }
 
 // 1 where two keys are the same.

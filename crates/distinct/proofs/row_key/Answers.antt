@@ -1,7 +1,6 @@
-use Rattle.distinct.specs.Inner.Keys.{row_key}
-use borrow.Author.Rules.{rules}
+use native.Mathlib.Omega.{arith}
+use Rattle.distinct.proofs.Keys.{passed_all}
 use Rattle.distinct.proofs.row_key.Goals as goal
 
 pub returns : goal.returns
-unfolding row_key
-returns c = search rules
+returns c = passed_all c.args.x c.loop-c.c-index c.loop-c.k c.concl_key.result (omega arith) c.loop-c.invariant c.concl_key.ensures.0
