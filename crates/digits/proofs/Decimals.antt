@@ -1,13 +1,15 @@
 -- Numbers in decimal: how the digits grow, and how many they are.
-use Prim.Native.Nat.{ℕ, zero, suc, ◌+◌, ◌/◌, ◌%◌, ◌^◌, ◌≤◌, ◌<◌}
+use Prim.Native.Nat.{ℕ, zero, suc, ◌+◌, ◌*◌, ◌/◌, ◌%◌, ◌^◌, ◌≤◌, ◌<◌}
 use mathlib.Core.Path.{◌≡◌, refl, sym, ap, ◌∙◌, subst}
 use mathlib.Core.List.{List, [], ◌∷◌, ◌++◌}
 use native.Mathlib.Omega.{arith}
 use native.Mathlib.Decide.{dec_lt}
-use native.Mathlib.Nat.{div-lt_self, div-lt_iff_lt-mul, pow-suc}
+use native.Mathlib.Nat.{div-lt_self, div-lt_iff_lt-mul, div-div-eq-div-mul, pow-suc, pow-succ', pow-le-pow_right}
 use borrow.Author.Tests.{lt-ltb, le-ltb}
 use lib.ListN.{length, length-append, get_or, get_or-append}
 use lib.Seq.{get_or-append_seam}
+use Rattle.std.specs.Prelude.{Option, None, Some}
+use Rattle.std.specs.Option.{IfNone, IfSome, unwrap_or}
 use Rattle.digits.specs.Decimals.{digits, decimal}
 
 digits_none : (n : ℕ) → digits zero n ≡ []
@@ -70,7 +72,7 @@ unfolding decimal
 decimal_few n h = digits_few 19 (suc n) n (omega arith)
 
 -- a number of two digits or more is 10 or more
-pub long_ten : (n : ℕ) → 2 ≤ length (decimal n) → 10 ≤ n
+long_ten : (n : ℕ) → 2 ≤ length (decimal n) → 10 ≤ n
 long_ten n h = go (dec_lt n 10)
   where
     go : Dec (n < 10) → 10 ≤ n
@@ -78,11 +80,11 @@ long_ten n h = go (dec_lt n 10)
     go (no l) = omega arith
 
 -- the digits before the last are those of the tenth part
-pub digit_up : (n i : ℕ) → 10 ≤ n → i < length (decimal (n / 10)) → get_or (decimal (n / 10)) i 0 ≡ get_or (decimal n) i 0
+digit_up : (n i : ℕ) → 10 ≤ n → i < length (decimal (n / 10)) → get_or (decimal (n / 10)) i 0 ≡ get_or (decimal n) i 0
 digit_up n i h l = sym (ap (λ (x : List ℕ). get_or x i 0) (decimal_more n h) ∙ get_or-append (decimal (n / 10)) ((48 + n % 10) ∷ []) 0 i l)
 
 -- and the last is what is left
-pub digit_last : (n i : ℕ) → i + 1 ≡ length (decimal n) → get_or (decimal n) i 0 ≡ 48 + n % 10
+digit_last : (n i : ℕ) → i + 1 ≡ length (decimal n) → get_or (decimal n) i 0 ≡ 48 + n % 10
 digit_last n i e = go (dec_lt n 10)
   where
     go : Dec (n < 10) → get_or (decimal n) i 0 ≡ 48 + n % 10
@@ -96,3 +98,25 @@ digit_last n i e = go (dec_lt n 10)
         ap (λ (x : List ℕ). get_or x i 0) (decimal_more n t) ∙
         ap (λ (j : ℕ). get_or (decimal (n / 10) ++ ((48 + n % 10) ∷ [])) j 0) z ∙
         get_or-append_seam (decimal (n / 10)) (48 + n % 10) [] 0
+
+-- with k + 1 digits a number is from 10 ^ k on, and below 10 ^ (k + 1)
+decimal_log : (k n : ℕ) → 10 ^ k ≤ n → n < 10 * 10 ^ k → length (decimal n) ≡ k + 1
+decimal_log zero n a b = let l : n < 10 = omega arith in ap (length {A = ℕ}) (decimal_one n l)
+decimal_log (suc k) n a b =
+    let p = pow-le-pow_right {n = 10} (omega arith) {i = 0} {j = k} (omega arith) in
+    let e = pow-suc 10 k in
+    let t : 10 ≤ n = omega (arith, a, e, p) in
+    omega (arith, decimal_grows n t, decimal_log k (n / 10) (omega (arith, a, e)) (omega (arith, b, e)))
+
+pub decimal_long : (n : ℕ) (o : Option ℕ) → IfNone o (n ≡ 0) → IfSome o (λ k. 10 ^ k ≤ n) → IfSome o (λ k. n < 10 * 10 ^ k) → length (decimal n) ≡ unwrap_or o 0 + 1
+decimal_long n None z a b = ap (length {A = ℕ}) (decimal_one n (omega (arith, z)))
+decimal_long n (Some k) z a b = decimal_log k n a b
+
+-- the digit with e digits after it
+pub digit_at : (e n i : ℕ) → i + e + 1 ≡ length (decimal n) → get_or (decimal n) i 0 ≡ 48 + n / 10 ^ e % 10
+digit_at zero n i h = let z : 48 + n % 10 ≡ 48 + n / 1 % 10 = omega arith in digit_last n i (omega (arith, h)) ∙ z
+digit_at (suc e) n i h =
+    let t = long_ten n (omega (arith, h)) in
+    let g = decimal_grows n t in
+    let q : n / 10 / 10 ^ e ≡ n / 10 ^ (suc e) = div-div-eq-div-mul n 10 (10 ^ e) ∙ ap (λ (p : ℕ). n / p) (sym (pow-succ' 10 e)) in
+    sym (digit_up n i t (omega (arith, h, g))) ∙ digit_at e (n / 10) i (omega (arith, h, g)) ∙ ap (λ (m : ℕ). 48 + m % 10) q

@@ -8,13 +8,7 @@ ghost use Rattle.digits.specs.Decimals.{decimal, signed};
 pub fn count(n: usize) -> usize
     ensures { (result ≡ length (decimal n)) × (result ≤ 20) }
 {
-    let mut rest = n;
-    let mut d: usize = 1;
-    while 10 <= rest {
-        rest = rest / 10;
-        d += 1;
-    }
-    d
+    n.checked_ilog10().unwrap_or(0) as usize + 1
 }
 
 // Digit i of n, counted from the first, in ASCII; n has d digits.
@@ -22,11 +16,8 @@ pub fn digit(n: usize, d: usize, i: usize) -> u8
     requires { (d ≡ length (decimal n)) × (i < d) }
     ensures { result ≡ get_or (decimal n) i 0 }
 {
-    let mut rest = n;
-    for _ in i + 1..d {
-        rest = rest / 10;
-    }
-    48 + (rest % 10) as u8
+    let after = (d - 1 - i) as u32;
+    48 + (n / 10usize.pow(after) % 10) as u8
 }
 
 // The sign of z.
