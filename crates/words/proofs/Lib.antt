@@ -1,3 +1,4 @@
 pub mod Deciding
 pub mod BitLaws
 pub mod Places
+pub mod Walking
