@@ -17,7 +17,7 @@ pub const INNER: u64 = 256;
 fn pack(a: u8, b: u8, c: u8, d: u8) -> u64
     ensures { (result ≡ 256 * (65536 * a + (256 * b + c)) + d) × (result < 16777216 * a + 16777216) }
 {
-    INNER * (65536 * a as u64 + (256 * b as u64 + c as u64)) + d as u64
+    u32::from_be_bytes([a, b, c, d]) as u64
 }
 
 // The word of a right of principal p.

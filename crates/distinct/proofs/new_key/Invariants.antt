@@ -3,5 +3,5 @@ use mathlib.Core.Path.{◌≡◌}
 use lib.ListN.{get_or}
 use Rattle.distinct.proofs.new_key.Given as goal
 
-abbrev pub invariant-loop-j : goal.invariant-loop-j
-invariant-loop-j l = (l.same ≤ l.j) × (l.same ≡ 0 → (i : ℕ) → i < l.j → get_or l.keys i 0 ≡ l.k → ⊥)
+abbrev pub invariant-loop-x : goal.invariant-loop-x
+invariant-loop-x l = (l.same ≤ l.x-index) × (l.same ≡ 0 → (i : ℕ) → i < l.x-index → get_or l.keys i 0 ≡ l.k → ⊥)

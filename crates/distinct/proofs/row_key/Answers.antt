@@ -1,6 +1,8 @@
-use native.Mathlib.Omega.{arith}
-use Rattle.distinct.proofs.Keys.{passed_all}
+use mathlib.Core.Path.{◌≡◌, ap, ◌∙◌}
+use borrow.Author.Rules.{rules}
+use Rattle.distinct.specs.Inner.Keys.{digits, row_key}
 use Rattle.distinct.proofs.row_key.Goals as goal
 
 pub returns : goal.returns
-returns c = passed_all c.args.x c.loop-c.c-index c.loop-c.k c.concl_key.result (omega arith) c.loop-c.invariant c.concl_key.ensures.0
+unfolding row_key
+returns c = let e : c.loop-w.w-index ≡ 6 = search rules in c.loop-w.invariant ∙ ap (digits c.args.x) e

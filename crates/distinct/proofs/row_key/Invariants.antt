@@ -1,5 +1,6 @@
-use Rattle.distinct.proofs.Keys.{Passed}
+use mathlib.Core.Path.{◌≡◌}
+use Rattle.distinct.specs.Inner.Keys.{digits}
 use Rattle.distinct.proofs.row_key.Given as goal
 
-abbrev pub invariant-loop-c : goal.invariant-loop-c
-invariant-loop-c l = Passed l.fn.x l.c-index l.k
+abbrev pub invariant-loop-w : goal.invariant-loop-w
+invariant-loop-w l = l.k ≡ digits l.fn.x l.w-index
