@@ -1,16 +1,11 @@
 -- What the panel promises, from what its parts say.
-use Prim.Native.Nat.{ℕ, ◌≤◌, ◌<◌}
+use Prim.Native.Nat.{ℕ, ◌<◌}
 use mathlib.Core.Path.{◌≡◌, refl, sym, ap, ◌∙◌}
-use mathlib.Core.Bool.{Bool, true, false}
 use mathlib.Core.List.{List}
 use mathlib.Core.Logic.{inl, inr}
 use native.Mathlib.Omega.{arith}
-use native.Mathlib.Decide.{dec_lt}
-use borrow.Author.Tests.{le-leb, lt-leb}
-use Rattle.std.specs.Prelude.{Result, Ok, Err}
-use Rattle.sorts.specs.Decides.{Decides}
+use Rattle.std.specs.Prelude.{Ok, Err}
 use Rattle.sorts.specs.Numbers.{number_of, speakers}
-use Rattle.sorts.specs.declared.Refusal.TheVariants as refusal
 use Rattle.sorts.specs.declared.Refusal.{Refusal}
 use Rattle.bookform.specs.declared.Book.{Book}
 use Rattle.answer.specs.declared.Answer.{Answer}
@@ -19,9 +14,8 @@ use Rattle.bookform.specs.Books.{BookForm}
 use Rattle.answer.specs.Answers.{answer_at}
 use Rattle.panel.specs.declared.PackRight.{PackRight}
 use Rattle.panel.specs.declared.PackRight.TheVariants.{Run, Export}
-use Rattle.panel.specs.declared.Panel.{Panel}
 use Rattle.panel.specs.Panels.{conclusion_of, Packs, PanelOf}
-use Rattle.panel.specs.Inner.Words.{one_for, admits, WordOf}
+use Rattle.panel.specs.Inner.Words.{one_for, Admitted, admitted, unformed, above, WordOf}
 use Rattle.panel.proofs.Words.{word_bit}
 use Rattle.panel.proofs.Asked.{permitted_at}
 
@@ -45,45 +39,31 @@ module _ (b : Book) (m k : List ℕ) (p : ℕ) where
         size = W.size;
       }
 
-  refused_above : speakers ≤ p → admits true p ≡ Err refusal.Range
-  refused_above l = rw (le-leb speakers p l)
+  pub admitted_form : (u : Unit {0}) → Admitted b m k p (Ok u) → BookForm b m k × (p < speakers)
+  admitted_form _ (admitted f l) = (f, l)
 
-  shown_below : p < speakers → admits true p ≡ Ok (tt {0})
-  shown_below l = rw (lt-leb speakers p l)
-
-  -- it is shown on a book in form, to one of the principals
-  pub shown_form : (form : Bool) → Decides form (BookForm b m k) → admits form p ≡ Ok (tt {0}) → BookForm b m k × (p < speakers)
-  shown_form false d e = let z : ◌≡◌ {A = ℕ} 0 1 = cc in absurd (omega arith)
-  shown_form true f e = (f, go (dec_lt p speakers))
-    where
-      go : Dec (p < speakers) → p < speakers
-      go (yes l) = l
-      go (no l) = let a = refused_above (omega arith) in let z : ◌≡◌ {A = ℕ} 0 1 = cc in absurd (omega arith)
-
-  pub panel_shown : (form : Bool) → Decides form (BookForm b m k) → admits form p ≡ Ok (tt {0}) → (w v : ℕ) → WordOf m k p Run w → WordOf m k p Export v →
-      PanelOf b m k p (Ok (record { run = w; export = v }))
-  panel_shown form d e w v W X =
-      let h = shown_form form d e in
-      let l = h.1 in
-      record {
-        decided = inl h.0;
-        unformed = λ g. absurd (g h.0);
-        above = λ f r. absurd (omega arith);
-        shown = λ f r. (record { run = w; export = v }, refl, packs_shown f r Run w W, packs_shown f r Export v X);
-      }
-
-  pub panel_refused : (form : Bool) → Decides form (BookForm b m k) → (j : Refusal) → admits form p ≡ Err j → (r : Result Panel Refusal) → r ≡ Err j → PanelOf b m k p r
-  panel_refused false d j e r q =
-      record {
-        decided = inr d;
-        unformed = λ g. cc;
-        above = λ f l. absurd (d f);
-        shown = λ f l. absurd (d f);
-      }
-  panel_refused true f j e r q =
+  pub panel_shown : BookForm b m k → p < speakers → (w v : ℕ) → WordOf m k p Run w → WordOf m k p Export v → PanelOf b m k p (Ok (record { run = w; export = v }))
+  panel_shown f l w v W X =
       record {
         decided = inl f;
         unformed = λ g. absurd (g f);
-        above = λ g l. let a = refused_above l in cc;
-        shown = λ g l. let a = shown_below l in let z : ◌≡◌ {A = ℕ} 0 1 = cc in absurd (omega arith);
+        above = λ g r. absurd (omega arith);
+        shown = λ g r. (record { run = w; export = v }, refl, packs_shown f r Run w W, packs_shown f r Export v X);
+      }
+
+  -- what is refused is so for one of the two reasons
+  pub panel_refused : (j : Refusal) → Admitted b m k p (Err j) → PanelOf b m k p (Err j)
+  panel_refused _ (unformed g) =
+      record {
+        decided = inr g;
+        unformed = λ h. refl;
+        above = λ f l. absurd (g f);
+        shown = λ f l. absurd (g f);
+      }
+  panel_refused _ (above f l) =
+      record {
+        decided = inl f;
+        unformed = λ g. absurd (g f);
+        above = λ g h. refl;
+        shown = λ g h. absurd (omega arith);
       }

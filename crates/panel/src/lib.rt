@@ -5,7 +5,7 @@ ghost use Rattle.std.specs.Prelude.{◌≡◌, ◌<◌, length};
 ghost use Rattle.sorts.specs.Numbers.{number_of, speakers, packs, all_marks};
 ghost use Rattle.answer.specs.Answers.{answer_at};
 ghost use Rattle.panel.specs.Panels.{conclusion_of, PanelOf};
-ghost use Rattle.panel.specs.Inner.Words.{one_for, admits, WordOf};
+ghost use Rattle.panel.specs.Inner.Words.{one_for, Admitted, WordOf};
 
 use answer::Answer;
 use bookform::Book;
@@ -41,14 +41,9 @@ fn one(c: Concl, marks: &[u8], second: &[u8]) -> u32
     requires { (number_of c < length marks.now) × (number_of c < length second.now) }
     ensures { result ≡ one_for (answer_at marks.now second.now (number_of c)) }
 {
-    let a = answer::answer_for(c, marks, second);
-    match a {
+    match answer::answer_for(c, marks, second) {
         Answer::Permitted => 1,
-        Answer::Open => 0,
-        Answer::NotPermitted => 0,
-        Answer::Changed(_) => 0,
-        Answer::Previewed(_) => 0,
-        Answer::Refused(_) => 0,
+        _ => 0,
     }
 }
 
@@ -64,11 +59,11 @@ fn word(p: u8, x: PackRight, marks: &[u8], second: &[u8]) -> u32
     w
 }
 
-// Whether a panel is shown of a book that is in form or not: only to a principal.
-fn admit(form: bool, p: u8) -> Result<(), Refusal>
-    ensures { result ≡ admits form p }
+// Whether a panel is shown: only of a book in form, and only to a principal.
+fn admit(b: Book, marks: &[u8], second: &[u8], p: u8) -> Result<(), Refusal>
+    ensures { Admitted b marks.now second.now p result }
 {
-    if !form {
+    if !bookform::in_form(b, marks, second) {
         return Err(Refusal::Form);
     }
     if p >= Prin::SPEAKERS {
@@ -81,7 +76,7 @@ fn admit(form: bool, p: u8) -> Result<(), Refusal>
 pub fn show(b: Book, marks: &[u8], second: &[u8], p: u8) -> Result<Panel, Refusal>
     ensures { PanelOf b marks.now second.now p result }
 {
-    admit(bookform::in_form(b, marks, second), p)?;
+    admit(b, marks, second, p)?;
     let run = word(p, PackRight::Run, marks, second);
     let export = word(p, PackRight::Export, marks, second);
     Ok(Panel { run, export })

@@ -1,8 +1,10 @@
--- A word as it is made from the answers, and what is said.
-use Rattle.std.specs.Prelude.{ℕ, ◌+◌, ◌^◌, ◌<◌, ◌≡◌, Bool, true, false, cond, List, leb, Result, Ok, Err}
+-- A word as it is made from the answers, and to whom it is shown.
+use Rattle.std.specs.Prelude.{ℕ, ◌+◌, ◌^◌, ◌≤◌, ◌<◌, ◌≡◌, List, Result, Ok, Err}
 use Rattle.sorts.specs.Numbers.{number_of, speakers, packs}
 use Rattle.sorts.specs.declared.Refusal.TheVariants as refusal
 use Rattle.sorts.specs.declared.Refusal.{Refusal}
+use Rattle.bookform.specs.declared.Book.{Book}
+use Rattle.bookform.specs.Books.{BookForm}
 use Rattle.answer.specs.declared.Answer.{Answer}
 use Rattle.answer.specs.declared.Answer.TheVariants.{Permitted, Open, NotPermitted, Changed, Previewed, Refused}
 use Rattle.answer.specs.Answers.{answer_at}
@@ -31,7 +33,8 @@ pub record WordFrom (m k : List ℕ) (p : ℕ) (x : PackRight) (n u w : ℕ) : T
 abbrev pub WordOf : List ℕ → List ℕ → ℕ → PackRight → ℕ → Type 0
 WordOf m k p x w = WordFrom m k p x 0 packs w
 
--- whether the panel is shown, by whether the book is in form and by the principal
-abbrev pub admits : Bool → ℕ → Result (Unit {0}) Refusal
-admits false p = Err refusal.Form
-admits true p = cond (leb speakers p) (Err refusal.Range) (Ok (tt {0}))
+-- whether the panel of principal p is shown of a lent book: of one that is in form, and to one of the principals; 9 comes before 3
+pub data Admitted (b : Book) (m k : List ℕ) (p : ℕ) : Result (Unit {0}) Refusal → Type 0 where
+  admitted : BookForm b m k → p < speakers → Admitted b m k p (Ok (tt {0}))
+  unformed : (BookForm b m k → ⊥) → Admitted b m k p (Err refusal.Form)
+  above : BookForm b m k → speakers ≤ p → Admitted b m k p (Err refusal.Range)
