@@ -6,9 +6,6 @@ ghost use Rattle.ranges.specs.Bytes.{as_result, byte_at, declared, upto, princip
 
 use sorts::{Pack, Prin, Refusal, Row};
 
-// How many conditions a grant may have.
-const CONDITIONS: u8 = Row::CONDITIONS as u8;
-
 // The variables that a grant declares: how many of principals, and the resource variable (0 none, 1 over grants, 2 over packs).
 #[derive(Clone, Copy)]
 pub struct Scope {
@@ -54,11 +51,7 @@ pub fn read_upto(most: u8, s: &[u8], at: usize) -> Result<(u8, usize), Refusal>
 fn variable(is: bool, b: u8, n: usize) -> Result<(u8, usize), Refusal>
     ensures { result ≡ as_result (declared is b n) }
 {
-    if is {
-        Ok((b, n))
-    } else {
-        Err(Refusal::Variable)
-    }
+    is.then_some((b, n)).ok_or(Refusal::Variable)
 }
 
 // A principal, or a variable that is declared.
@@ -112,7 +105,7 @@ pub fn read_header(s: &[u8], at: usize) -> Result<(Header, usize), Refusal>
 {
     let (prins, n1) = read_upto(2, s, at)?;
     let (res, n2) = read_upto(2, s, n1)?;
-    let (count, n3) = read_upto(CONDITIONS, s, n2)?;
+    let (count, n3) = read_upto(Row::CONDITIONS as u8, s, n2)?;
     let scope = Scope { prins, res };
     Ok((Header { scope, count }, n3))
 }
