@@ -11,9 +11,6 @@ ghost use Rattle.canonwrite.specs.Answers.{Answers};
 
 use sorts::Row;
 
-// How many conditions a grant may have.
-const CONDITIONS: u8 = Row::CONDITIONS as u8;
-
 // The most bytes of a grant, and of a query's conclusion.
 pub const MOST_GRANT: usize = 3432;
 
@@ -27,7 +24,7 @@ pub struct Place {
 }
 
 // The same with the lengths of the segments, of which the first `count` are meant: a list of a fixed length, since no memory is
-// taken.
+// taken. The two places stand here and in no `Place`, since each step reads and sets one of them.
 #[derive(Clone, Copy)]
 pub struct Segments {
     pub at: usize,
@@ -93,13 +90,13 @@ fn put_conds(s: &[u8], below: u8, b: usize, k: u8, was: Segments, out: &mut [u8]
     ensures done { kept_of out.new result ≡ put_conds (put_grant below s.now) s.now b k (kept_of out.old was) }
     ensures fits { SegmentsFit b result × (was.to ≤ result.to) × (result.to + 3 + most below ≤ was.to + room k (most below)) × (result.at + 3 + most below ≤ was.at + room k (most below)) }
 {
-    if k == 0 {
-        return was;
+    let mut kept = was;
+    for i in 0..k {
+        segments::put(out, kept.to, segments::byte_at(s, kept.at));
+        let one = put_concl(s, kept.at + 1, below, out, kept.to + 1);
+        kept = put_in(b, kept, one, out);
     }
-    segments::put(out, was.to, segments::byte_at(s, was.at));
-    let one = put_concl(s, was.at + 1, below, out, was.to + 1);
-    let next = put_in(b, was, one, out);
-    put_conds(s, below, b, k - 1, next, out)
+    kept
 }
 
 // The form of the grant at a place; `left` grants may stand one inside the other, this one counted.
@@ -115,7 +112,7 @@ fn put_grant(s: &[u8], at: usize, left: u8, out: &mut [u8], to: usize) -> Place
     }
     let below = left - 1;
     copy_three(s, at, out, to);
-    let k = segments::byte_at(s, at + 2).min(CONDITIONS);
+    let k = segments::byte_at(s, at + 2).min(Row::CONDITIONS as u8);
     let none = Segments {
         at: at + 3,
         to: to + 3,

@@ -15,9 +15,6 @@ use sorts::{Concl, Cond, GrantNo, Number, Pack, Prin, Res, Row};
 // How many properties there are.
 const PROPERTIES: u8 = Number::PROPERTIES as u8;
 
-// The places that a row has for conditions.
-const CONDITIONS: u8 = Row::CONDITIONS as u8;
-
 // Whether a principal in a row is one of the principals, or a variable that the row declares.
 fn prin_ok(prins: u8, p: Prin) -> bool
     ensures { Decides result (PrinForm prins p) }
@@ -98,7 +95,7 @@ fn row_ok(i: usize, x: Row) -> bool
 {
     x.prins <= 2
         && x.res <= 2
-        && x.count <= CONDITIONS
+        && x.count <= Row::CONDITIONS as u8
         && concl_ok(i, x.prins, x.res, x.head)
         && used_conds_ok(i, x)
         && unused_conds_ok(x)
