@@ -1,3 +1,4 @@
+pub mod Blocks
 pub mod Halves
 pub mod Loops
 pub mod Net
