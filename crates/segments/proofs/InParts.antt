@@ -50,3 +50,7 @@ module _ (l : List ℕ) (a b e : ℕ) (h : a ≤ b) (k : b ≤ e) where
       let c = part_cut l a e (omega arith) in
       let s : r ≡ part b e l ++ part a b l = q ∙ ap₂ ◌++◌ (ap (drop (b - a)) c ∙ second) (ap (take (b - a)) c ∙ first) in
       ap (λ (x : List ℕ). take a l ++ x) (ap₂ ◌++◌ s (Post-is a e l (omega arith)) ∙ append_assoc (part b e l) (part a b l) (drop e l))
+
+-- Two parts, as the library compares them.
+pub parts_cmp : (l : List ℕ) (a e b n : ℕ) → a ≤ e → slice_cmp nat_cmp (take (e - a) (drop a l)) (take (b + n - b) (drop b l)) ≡ ordering_of (order (part a e l) (part b (b + n) l))
+parts_cmp l a e b n h = ap₂ (slice_cmp nat_cmp) (part_cut l a e h) (part_cut l b (b + n) (omega arith)) ∙ order_cmp (part a e l) (part b (b + n) l)

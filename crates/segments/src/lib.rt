@@ -3,9 +3,7 @@
 
 ghost use Rattle.std.specs.Prelude.{◌∷◌, ◌++◌, ◌≡◌, ◌+◌, ◌≤◌, ◌<◌, length, get_or, set, sum, take, drop};
 ghost use Rattle.sorts.specs.Numbers.{conditions};
-ghost use Rattle.canon.specs.Canon.{order};
 ghost use Rattle.segments.specs.Segments.{part, turn, seat};
-ghost use Rattle.segments.specs.Inner.Ranges.{ordering_of};
 
 use sorts::Row;
 use std::cmp::Ordering;
@@ -26,15 +24,6 @@ pub fn put(out: &mut [u8], to: usize, b: u8)
     }
 }
 
-// How the bytes from a up to e stand to those from b up to f.
-pub fn compare(out: &[u8], a: usize, e: usize, b: usize, f: usize) -> Ordering
-    requires a_le_e { (a ≤ e) × (e ≤ length out.now) }
-    requires b_le_f { (b ≤ f) × (f ≤ length out.now) }
-    ensures { result ≡ ordering_of (order (part a e out.now) (part b f out.now)) }
-{
-    out[a..e].cmp(&out[b..f])
-}
-
 // What stands from b up to e put before what stands from a up to b.
 pub fn turn(out: &mut [u8], a: usize, b: usize, e: usize)
     requires { (a ≤ b) × (b ≤ e) × (e ≤ length out.old) }
@@ -44,7 +33,7 @@ pub fn turn(out: &mut [u8], a: usize, b: usize, e: usize)
 }
 
 // Where the segment from `to` up to e stands among the first `count` segments, of which the first is at b: nowhere, since it is
-// there, or before the one of a number, at that one's place.
+// there, or before the one of a number, at that one's place. Places in one buffer, since the segment is turned in it.
 pub fn seek(
     out: &[u8],
     b: usize,
@@ -58,7 +47,7 @@ pub fn seek(
 {
     let mut at = b;
     for (k, &n) in lens[..count].iter().enumerate() {
-        match compare(out, to, e, at, at + n) {
+        match out[to..e].cmp(&out[at..at + n]) {
             Ordering::Less => return Some((k, at)),
             Ordering::Equal => return None,
             Ordering::Greater => at += n,

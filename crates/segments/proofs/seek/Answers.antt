@@ -6,6 +6,7 @@ use lib.ListN.{take}
 use Rattle.std.proofs.lemmas.List.Sums.{sum_by-take-le}
 use Rattle.segments.specs.Segments.{part}
 use lib.Seq.{length-take-le}
+use Rattle.segments.proofs.InParts.{parts_cmp}
 use Rattle.segments.proofs.Seats.{seat_below, seat_same, seat_above, seat_ended, sum_step}
 use Rattle.segments.proofs.seek.Goals as goal
 
@@ -13,15 +14,15 @@ pub loop-k-init : goal.loop-k-init
 loop-k-init c = (omega (arith, c.requires, sum_by-take-le (λ x. x) c.args.lens c.args.count), refl)
 
 pub returns-in-Less : goal.returns-in-Less
-returns-in-Less c = sym (c.loop-k.invariant.1 ∙ seat_below (part c.args.to c.args.e c.args.out.now) c.args.out.now c.loop-k.k c.loop-k.at (take c.args.count c.args.lens) c.loop-k-test.true (sym c.compare.ensures ∙ c.in-Less.is))
+returns-in-Less c = sym (c.loop-k.invariant.1 ∙ seat_below (part c.args.to c.args.e c.args.out.now) c.args.out.now c.loop-k.k c.loop-k.at (take c.args.count c.args.lens) c.loop-k-test.true (sym (c.cmp.ensures ∙ parts_cmp c.args.out.now c.args.to c.args.e c.loop-k.at _ c.requires.2) ∙ c.in-Less.is))
 
 pub returns-in-Equal : goal.returns-in-Equal
-returns-in-Equal c = sym (c.loop-k.invariant.1 ∙ seat_same (part c.args.to c.args.e c.args.out.now) c.args.out.now c.loop-k.k c.loop-k.at (take c.args.count c.args.lens) c.loop-k-test.true (sym c.compare.ensures ∙ c.in-Equal.is))
+returns-in-Equal c = sym (c.loop-k.invariant.1 ∙ seat_same (part c.args.to c.args.e c.args.out.now) c.args.out.now c.loop-k.k c.loop-k.at (take c.args.count c.args.lens) c.loop-k-test.true (sym (c.cmp.ensures ∙ parts_cmp c.args.out.now c.args.to c.args.e c.loop-k.at _ c.requires.2) ∙ c.in-Equal.is))
 
 pub loop-k-preserved : goal.loop-k-preserved
 loop-k-preserved c =
     let ns = take c.args.count c.args.lens in
-    (omega (arith, c.loop-k.invariant.0, sum_step ns c.loop-k.k c.loop-k-test.true), c.loop-k.invariant.1 ∙ seat_above (part c.args.to c.args.e c.args.out.now) c.args.out.now c.loop-k.k c.loop-k.at ns c.loop-k-test.true (sym c.compare.ensures ∙ c.in-Greater.is))
+    (omega (arith, c.loop-k.invariant.0, sum_step ns c.loop-k.k c.loop-k-test.true), c.loop-k.invariant.1 ∙ seat_above (part c.args.to c.args.e c.args.out.now) c.args.out.now c.loop-k.k c.loop-k.at ns c.loop-k-test.true (sym (c.cmp.ensures ∙ parts_cmp c.args.out.now c.args.to c.args.e c.loop-k.at _ c.requires.2) ∙ c.in-Greater.is))
 
 pub returns : goal.returns
 returns c =
