@@ -55,7 +55,8 @@ fn row_ascends(words: &[[u64; WORDS]; Table::ROWS], i: usize, n: usize) -> bool
     (1..n).all(|j| below(words, i, j - 1))
 }
 
-// Whether the key of a condition is below that of another.
+// Whether the key of a condition is below that of another. No derived order does it: an inner grant counts as it is written out, and not
+// by its number.
 fn key_below(a: Cond, b: Cond) -> bool
     ensures { result ≡ true → KeyBelow a b }
 {

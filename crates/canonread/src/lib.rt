@@ -10,7 +10,7 @@ use ranges::Scope;
 use rows::Numbering;
 use sorts::{Concl, GrantNo, Refusal, Row};
 
-// Whether the conclusion that s opens with holds a grant.
+// Whether the conclusion that s opens with holds a grant, by its bytes, which may be faulty yet: they are no kind that was read.
 #[tactic(auto, unfolding(crate::specs::Inner::Again::holds_grant))]
 fn holds_grant(s: &[u8]) -> bool
     ensures { result ≡ holds_grant s.now }

@@ -63,7 +63,7 @@ fn put_in(b: usize, was: Segments, one: Place, out: &mut [u8]) -> Segments
     }
 }
 
-// The form of the conclusion at a place.
+// The form of the conclusion at a place. Its bytes are copied, whatever they are: no kind is read here.
 #[cycle(put_concl_put_conds_put_grant)]
 fn put_concl(s: &[u8], at: usize, below: u8, out: &mut [u8], to: usize) -> Place
     requires { (at + 3 + most below ≤ 65536) × (to + 3 + most below ≤ length out.old) }

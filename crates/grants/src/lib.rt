@@ -74,7 +74,8 @@ fn read_conds(
     Ok((conds, n))
 }
 
-// A conclusion of a grant that declares v.
+// A conclusion of a grant that declares v. Its kind, and below the tag of an issue right, is a byte that is told where it is read: an enum
+// would be made of it by the same comparisons.
 #[cycle(grants)]
 #[tactic(auto, unfolding(crate::specs::Inner::OnePass::num_concl, crate::specs::Inner::OnePass::onward))]
 pub fn read_concl(

@@ -51,7 +51,8 @@ pub struct Left {
     pub preview: [u8; Number::MARKS],
 }
 
-// What the records of a journal leave, read from a fresh book on, with every buffer 0.
+// What the records of a journal leave, read from a fresh book on, with every buffer 0. A loop of its own, as the listing program has one:
+// document 01 has the loop hand on the part that starts at the next record, and the program make the arrays that it lends.
 pub fn left_by(s: &[u8]) -> Left
     ensures { Leaves s.now result.book result.marks result.second result.preview }
 {

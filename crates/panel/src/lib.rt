@@ -11,7 +11,7 @@ use answer::Answer;
 use bookform::Book;
 use sorts::{Concl, Pack, Prin, Refusal, Res};
 
-// The two rights over packs.
+// The two rights over packs, which the definitions name; a closure that makes the conclusion would be told of in each contract.
 #[derive(Clone, Copy)]
 pub enum PackRight {
     Run,

@@ -13,14 +13,16 @@ pub struct Scope {
     pub res: u8,
 }
 
-// What the three bytes that open a grant say: what it declares, and how many conditions it has.
+// What the three bytes that open a grant say: what it declares, and how many conditions it has. A row has the three as fields of its
+// own, as document 01 lists them.
 #[derive(Clone, Copy)]
 pub struct Header {
     pub scope: Scope,
     pub count: u8,
 }
 
-// Each reader finds a value with the place after it, or the first fault.
+// Each reader finds a value with the place after it, or the first fault. The bytes and the place stay two parameters: the definitions read
+// a list at a place, and a value of both would be opened in each contract.
 
 // The byte at a place.
 #[tactic(auto, unfolding(crate::specs::Bytes::byte_at))]
