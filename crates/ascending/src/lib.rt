@@ -2,7 +2,7 @@
 // are compared by their words.
 #![tactic(auto)]
 
-ghost use Rattle.std.specs.Prelude.{true, ◌≡◌, length, get_or};
+ghost use Rattle.std.specs.Prelude.{true, ◌≡◌, get_or};
 ghost use Prim.Native.Nat.{ℕ, ◌+◌, ◌≤◌, ◌<◌, Ordering};
 ghost use Rattle.sorts.specs.Numbers.{conditions};
 ghost use Rattle.sorts.specs.Blank.{no_row};

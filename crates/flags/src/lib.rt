@@ -3,7 +3,7 @@
 
 pub mod changes;
 
-ghost use Rattle.std.specs.Prelude.{◌≡◌, ◌<◌, length};
+ghost use Rattle.std.specs.Prelude.{◌≡◌, ◌<◌};
 ghost use Rattle.sorts.specs.Decides.{Decides};
 ghost use Rattle.sorts.specs.Numbers.{grants};
 ghost use Rattle.sorts.specs.Flags.{all_flags};
