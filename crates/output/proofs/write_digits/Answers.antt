@@ -1,4 +1,4 @@
-use Rattle.std.proofs.Common.{◌+◌, ◌<◌, rules, arith, subst, [], ◌∷◌}
+use Rattle.std.proofs.Common.{rules, arith, subst, [], ◌∷◌}
 use Rattle.digits.specs.Decimals.{decimal}
 use Rattle.output.proofs.Taking.{each_none, each_more}
 use Rattle.output.proofs.write_digits.Goals as goal
