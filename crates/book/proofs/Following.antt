@@ -4,6 +4,7 @@ use mathlib.Core.Path.{◌≡◌, refl, sym, ap, subst, ◌∙◌}
 use mathlib.Core.Bool.{Bool, true, false, cond}
 use mathlib.Core.List.{List}
 use native.Mathlib.Omega.{arith}
+use Rattle.std.specs.Prelude.{Result, Ok, Err}
 use lib.ListN.{length}
 use Rattle.sorts.specs.declared.Prin.{Prin}
 use Rattle.sorts.specs.declared.Status.{Status}
@@ -26,14 +27,13 @@ use Rattle.contents.specs.Records.{Record, enter, remove, confirm, preview, quer
 use Rattle.reader.specs.Records.{read_canonical}
 use Rattle.contents.specs.Requests.{fits, found_of, numbered_by}
 use Rattle.reader.specs.Requests.{Reads}
+use Rattle.contents.specs.declared.Request.{Request}
 use Rattle.contents.specs.declared.Request.TheVariants.{Enter, Remove, Confirm, Preview, Query}
-use Rattle.contents.specs.declared.Found.{Found}
-use Rattle.contents.specs.declared.Found.TheVariants as found
 use Rattle.contents.specs.declared.Reading.{Reading}
 use Rattle.exact.specs.Writing.{AllowedRecord}
 use Rattle.canon.specs.Canon.{Canonical, CanonicalConcl}
 use Rattle.canon.proofs.Numbers.{AllInForm, rows_all, all_rows, number_in_form, concl_in_form}
-use Rattle.exact.proofs.CanonicalRecords.{canonical_exact}
+use Rattle.exact.proofs.CanonicalRecords.{canonical_exact, canonical_extent}
 use Rattle.rules.proofs.Standing.{standing_length, standing_bits}
 use Rattle.flags.specs.Both.{both_flags}
 use Rattle.flags.specs.Changes.{is_set, entered_flags, there_flags, removed_flags}
@@ -71,7 +71,6 @@ module _ (b : Book) (m k v s : List ℕ) (f : BookForm b m k) (vl : length v ≡
   ready = record {
     rows = table_rows b.table f.table;
     next = table_rows r.table (R.form f.table);
-    flags = f.flags;
     marks = f.marks.count;
     second = f.second.count;
     preview = vl;
@@ -172,9 +171,9 @@ module _ (b : Book) (m k v s : List ℕ) (f : BookForm b m k) (vl : length v ≡
 
     module _ (by : Status) (known : StatusRange by) (g : Grant) (own : Canonical g) (n : ℕ) (rows' : fits (number g N) ≡ true → rows_out r.table.rows r.table.count ≡ number g N) where
       enter_steps : (c : Bool) → fits (number g N) ≡ c → Follows M (cond c (change (entered by g E) (number g N) n) (refuse M refusal.Full n)) b m k v
-          (applied_to b m k r.table (cond c (found.Asks (Enter by (record { 0 = place g (number g N) })) n) (found.Full n)))
-          (marks_applied_to firm_marks b m r.table (cond c (found.Asks (Enter by (record { 0 = place g (number g N) })) n) (found.Full n)))
-          (marks_applied_to both_marks b k r.table (cond c (found.Asks (Enter by (record { 0 = place g (number g N) })) n) (found.Full n))) (preview_applied_to b v (cond c (found.Asks (Enter by (record { 0 = place g (number g N) })) n) (found.Full n)))
+          (applied_to b m k r.table n (cond c (Ok (Enter by (record { 0 = place g (number g N) }))) (Err refusal.Full)))
+          (marks_applied_to firm_marks b m r.table (cond c (Ok (Enter by (record { 0 = place g (number g N) }))) (Err refusal.Full)))
+          (marks_applied_to both_marks b k r.table (cond c (Ok (Enter by (record { 0 = place g (number g N) }))) (Err refusal.Full))) (preview_applied_to b v (cond c (Ok (Enter by (record { 0 = place g (number g N) }))) (Err refusal.Full)))
       enter_steps true e =
           entered_steps r.table (R.form f.table) (number g N) (rows' e) (number_ext g N) (number_in_form g N own numbered) by known g (number_has g N) n
       enter_steps false e = refused_steps refusal.Full n
@@ -208,18 +207,18 @@ module _ (b : Book) (m k v s : List ℕ) (f : BookForm b m k) (vl : length v ≡
       not_there e (Provisional p) = not_true_false (stands M (Provisional p) g) (absent g e (Provisional p))
 
       remove_steps : (by : Status) → StatusRange by → (d : Bool) → has g N ≡ d → Follows M (cond (there by g E) (change (removed by g E) N n) (refuse M refusal.Absent n)) b m k v
-          (applied_to b m k r.table (cond d (found.Asks (Remove by (record { 0 = place g N })) n) (found.Unknown n)))
-          (marks_applied_to firm_marks b m r.table (cond d (found.Asks (Remove by (record { 0 = place g N })) n) (found.Unknown n)))
-          (marks_applied_to both_marks b k r.table (cond d (found.Asks (Remove by (record { 0 = place g N })) n) (found.Unknown n))) (preview_applied_to b v (cond d (found.Asks (Remove by (record { 0 = place g N })) n) (found.Unknown n)))
+          (applied_to b m k r.table n (cond d (Ok (Remove by (record { 0 = place g N }))) (Err refusal.Absent)))
+          (marks_applied_to firm_marks b m r.table (cond d (Ok (Remove by (record { 0 = place g N }))) (Err refusal.Absent)))
+          (marks_applied_to both_marks b k r.table (cond d (Ok (Remove by (record { 0 = place g N }))) (Err refusal.Absent))) (preview_applied_to b v (cond d (Ok (Remove by (record { 0 = place g N }))) (Err refusal.Absent)))
       remove_steps by known true h =
           picked (removed by g E) (removed_book b by (place g N)) n (removed_steps b.table f.table N refl (ext_refl N) numbered by known g h n)
           (there_flags by (place g N) b.flags) (there by g E) (there_shown N small distinct g h b.flags E (over N (ext_refl N) distinct) by known)
       remove_steps by known false h = left (change (removed by g E) N n) n (there by g E) (not_there h by)
 
       confirm_steps : (p : Prin) → StatusRange (Issued p) → (d : Bool) → has g N ≡ d → Follows M (cond (stands M (Provisional p) g) (change (entered (Issued p) g E) N n) (refuse M refusal.Absent n)) b m k v
-          (applied_to b m k r.table (cond d (found.Asks (Confirm p (record { 0 = place g N })) n) (found.Unknown n)))
-          (marks_applied_to firm_marks b m r.table (cond d (found.Asks (Confirm p (record { 0 = place g N })) n) (found.Unknown n)))
-          (marks_applied_to both_marks b k r.table (cond d (found.Asks (Confirm p (record { 0 = place g N })) n) (found.Unknown n))) (preview_applied_to b v (cond d (found.Asks (Confirm p (record { 0 = place g N })) n) (found.Unknown n)))
+          (applied_to b m k r.table n (cond d (Ok (Confirm p (record { 0 = place g N }))) (Err refusal.Absent)))
+          (marks_applied_to firm_marks b m r.table (cond d (Ok (Confirm p (record { 0 = place g N }))) (Err refusal.Absent)))
+          (marks_applied_to both_marks b k r.table (cond d (Ok (Confirm p (record { 0 = place g N }))) (Err refusal.Absent))) (preview_applied_to b v (cond d (Ok (Confirm p (record { 0 = place g N }))) (Err refusal.Absent)))
       confirm_steps p known true h =
           picked (entered (Issued p) g E) (entered_book b b.table (Issued p) (place g N)) n (entered_steps b.table f.table N refl (ext_refl N) numbered (Issued p) known g h n)
           (is_set b.flags (Provisional p) (place g N)) (stands M (Provisional p) g) (set_shown N small distinct g h b.flags E (over N (ext_refl N) distinct) (Provisional p) known)
@@ -234,9 +233,9 @@ module _ (b : Book) (m k v s : List ℕ) (f : BookForm b m k) (vl : length v ≡
       seen p false false e = refused_steps refusal.Absent n
 
       preview_steps : (p : Prin) → StatusRange (Issued p) → (d : Bool) → has g N ≡ d → Follows M (cond (there (Issued p) g E) (previewed M p g n) (refuse M refusal.Absent n)) b m k v
-          (applied_to b m k r.table (cond d (found.Asks (Preview p (record { 0 = place g N })) n) (found.Unknown n)))
-          (marks_applied_to firm_marks b m r.table (cond d (found.Asks (Preview p (record { 0 = place g N })) n) (found.Unknown n)))
-          (marks_applied_to both_marks b k r.table (cond d (found.Asks (Preview p (record { 0 = place g N })) n) (found.Unknown n))) (preview_applied_to b v (cond d (found.Asks (Preview p (record { 0 = place g N })) n) (found.Unknown n)))
+          (applied_to b m k r.table n (cond d (Ok (Preview p (record { 0 = place g N }))) (Err refusal.Absent)))
+          (marks_applied_to firm_marks b m r.table (cond d (Ok (Preview p (record { 0 = place g N }))) (Err refusal.Absent)))
+          (marks_applied_to both_marks b k r.table (cond d (Ok (Preview p (record { 0 = place g N }))) (Err refusal.Absent))) (preview_applied_to b v (cond d (Ok (Preview p (record { 0 = place g N }))) (Err refusal.Absent)))
       preview_steps p known true h =
           seen p (there_flags (Issued p) (place g N) b.flags) (there (Issued p) g E) (there_shown N small distinct g h b.flags E (over N (ext_refl N) distinct) (Issued p) known)
       preview_steps p known false h = left (previewed M p g n) n (there (Issued p) g E) (not_there h (Issued p))
@@ -245,9 +244,9 @@ module _ (b : Book) (m k v s : List ℕ) (f : BookForm b m k) (vl : length v ≡
 
     query_steps : (c : Concl) → CanonicalConcl c → (n : ℕ) → (fits (number_concl c N) ≡ true → rows_out r.table.rows r.table.count ≡ number_concl c N) → (d : Bool) → fits (number_concl c N) ≡ d →
         Follows M (cond d (record { next = record { entries = E; N = number_concl c N }; says = asks (number_of (concl_of (number_concl c N) c)); used = n }) (refuse M refusal.Full n)) b m k v
-        (applied_to b m k r.table (cond d (found.Asks (Query (concl_of (number_concl c N) c)) n) (found.Full n)))
-        (marks_applied_to firm_marks b m r.table (cond d (found.Asks (Query (concl_of (number_concl c N) c)) n) (found.Full n)))
-        (marks_applied_to both_marks b k r.table (cond d (found.Asks (Query (concl_of (number_concl c N) c)) n) (found.Full n))) (preview_applied_to b v (cond d (found.Asks (Query (concl_of (number_concl c N) c)) n) (found.Full n)))
+        (applied_to b m k r.table n (cond d (Ok (Query (concl_of (number_concl c N) c))) (Err refusal.Full)))
+        (marks_applied_to firm_marks b m r.table (cond d (Ok (Query (concl_of (number_concl c N) c))) (Err refusal.Full)))
+        (marks_applied_to both_marks b k r.table (cond d (Ok (Query (concl_of (number_concl c N) c))) (Err refusal.Full))) (preview_applied_to b v (cond d (Ok (Query (concl_of (number_concl c N) c))) (Err refusal.Full)))
     unfolding answer_of marks_after second_after preview_after
     query_steps c own n rows' true e = record {
       answer = refl;
@@ -278,7 +277,7 @@ module _ (b : Book) (m k v s : List ℕ) (f : BookForm b m k) (vl : length v ≡
     query_steps c own n rows' false e = refused_steps refusal.Full n
 
     record_steps : (q : Record) (n : ℕ) → read_canonical s ≡ got q n → Follows M (act M q n) b m k v
-        (applied_to b m k r.table (found_of N (extent s) (got q n))) (marks_applied_to firm_marks b m r.table (found_of N (extent s) (got q n))) (marks_applied_to both_marks b k r.table (found_of N (extent s) (got q n))) (preview_applied_to b v (found_of N (extent s) (got q n)))
+        (applied_to b m k r.table n (found_of N (got q n))) (marks_applied_to firm_marks b m r.table (found_of N (got q n))) (marks_applied_to both_marks b k r.table (found_of N (got q n))) (preview_applied_to b v (found_of N (got q n)))
     unfolding act found_of numbered_by AllowedRecord
     record_steps (enter by g) n e =
         enter_steps by (canonical_exact s (enter by g) n e).0.0 g (canonical_exact s (enter by g) n e).1 n
@@ -290,15 +289,19 @@ module _ (b : Book) (m k v s : List ℕ) (f : BookForm b m k) (vl : length v ≡
         query_steps c (canonical_exact s (query c) n e).1 n (λ d. R.rows f.table ∙ ap (numbered_by N) e ∙ ap (λ (x : Bool). cond x (number_concl c N) N) d) (fits (number_concl c N)) refl
 
     outcome_steps : (o : Outcome Record) → read_canonical s ≡ o → Follows M (acted M (extent s) o) b m k v
-        (applied_to b m k r.table (found_of N (extent s) o)) (marks_applied_to firm_marks b m r.table (found_of N (extent s) o)) (marks_applied_to both_marks b k r.table (found_of N (extent s) o)) (preview_applied_to b v (found_of N (extent s) o))
+        (applied_to b m k r.table (extent s) (found_of N o)) (marks_applied_to firm_marks b m r.table (found_of N o)) (marks_applied_to both_marks b k r.table (found_of N o)) (preview_applied_to b v (found_of N o))
     unfolding found_of
-    outcome_steps (got q n) e = record_steps q n e
+    outcome_steps (got q n) e =
+        subst (λ (u : ℕ). Follows M (act M q n) b m k v (applied_to b m k r.table u (found_of N (got q n))) (marks_applied_to firm_marks b m r.table (found_of N (got q n))) (marks_applied_to both_marks b k r.table (found_of N (got q n))) (preview_applied_to b v (found_of N (got q n))))
+        (canonical_extent s q n e) (record_steps q n e)
     outcome_steps (refused j) e = refused_steps j (extent s)
 
-    all_steps : Follows M (acted M (extent s) (read_canonical s)) b m k v (applied_to b m k r.table r.found) (marks_applied_to firm_marks b m r.table r.found) (marks_applied_to both_marks b k r.table r.found) (preview_applied_to b v r.found)
+    all_steps : Follows M (acted M (extent s) (read_canonical s)) b m k v (applied_to b m k r.table r.used r.found) (marks_applied_to firm_marks b m r.table r.found) (marks_applied_to both_marks b k r.table r.found) (preview_applied_to b v r.found)
     all_steps =
-        subst (λ (x : Found). Follows M (acted M (extent s) (read_canonical s)) b m k v (applied_to b m k r.table x) (marks_applied_to firm_marks b m r.table x) (marks_applied_to both_marks b k r.table x) (preview_applied_to b v x))
-        (sym (R.found f.table)) (outcome_steps (read_canonical s) refl)
+        subst (λ (u : ℕ). Follows M (acted M (extent s) (read_canonical s)) b m k v (applied_to b m k r.table u r.found) (marks_applied_to firm_marks b m r.table r.found) (marks_applied_to both_marks b k r.table r.found) (preview_applied_to b v r.found))
+        (sym (R.used f.table.count))
+        (subst (λ (x : Result Request Refusal). Follows M (acted M (extent s) (read_canonical s)) b m k v (applied_to b m k r.table (extent s) x) (marks_applied_to firm_marks b m r.table x) (marks_applied_to both_marks b k r.table x) (preview_applied_to b v x))
+        (sym (R.found f.table)) (outcome_steps (read_canonical s) refl))
 
     follows_at : Follows M (step M s) b m k v (applied b m k r) (marks_applied firm_marks b m r) (marks_applied both_marks b k r) (preview_applied b v r)
     unfolding step applied marks_applied preview_applied

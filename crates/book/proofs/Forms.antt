@@ -6,10 +6,12 @@ use mathlib.Core.List.{List, [], ◌∷◌, ◌++◌}
 use mathlib.Core.Logic.{inl, inr}
 use native.Mathlib.Omega.{arith}
 use native.Mathlib.Decide.{dec_lt}
+use Rattle.std.specs.Prelude.{Ok, Err}
 use lib.ListN.{length, get_or, replicate, length-replicate, get_or-replicate, get_or-eq_default}
 use lib.Seq.{get_or-append_seam}
 use borrow.Author.Tests.{leb-true}
 use Rattle.sorts.specs.declared.Cond.{Cond}
+use Rattle.sorts.specs.declared.Refusal.TheVariants as refusal
 use Rattle.sorts.specs.declared.Status.{Status}
 use Rattle.sorts.specs.Flags.{StatusRange, FirmRange}
 use Rattle.sorts.specs.declared.Prin.{Prin}
@@ -26,12 +28,10 @@ use Rattle.rows.specs.Allowed.{AllowedConcl}
 use Rattle.rows.proofs.Place.{has_in, has_lt}
 use Rattle.rows.proofs.Shown.{length_more}
 use Rattle.ranges.specs.Bytes.{Outcome, got, refused}
-use Rattle.frames.specs.Frames.{extent}
 use Rattle.contents.specs.Records.{Record, enter, remove, confirm, preview, query}
 use Rattle.reader.specs.Records.{read_canonical}
 use Rattle.contents.specs.Requests.{fits, found_of}
 use Rattle.contents.specs.declared.Request.TheVariants.{Enter, Remove, Confirm, Preview, Query}
-use Rattle.contents.specs.declared.Found.TheVariants as found
 use Rattle.exact.specs.Writing.{AllowedRecord}
 use Rattle.exact.proofs.CanonicalRecords.{canonical_exact}
 use Rattle.rules.specs.Rules.{RowsForm}
@@ -108,47 +108,47 @@ concl_closed (perm p (run n)) N a e = (prin_closed p a.0, pack_closed n a.1)
 concl_closed (perm p (export n)) N a e = (prin_closed p a.0, pack_closed n a.1)
 
 module _ (N : List Grant) (small : length N ≤ grants) where
-  entering_fits : (by : Status) → StatusRange by → (g : Grant) (n : ℕ) (b : Bool) → fits (number g N) ≡ b →
-      FoundFits (cond b (found.Asks (Enter by (record { 0 = place g (number g N) })) n) (found.Full n))
-  entering_fits by k g n true e = (k, let l = has_lt g (number g N) (number_has g N) in let s = fits_small (number g N) e in omega arith)
-  entering_fits by k g n false e = tt
+  entering_fits : (by : Status) → StatusRange by → (g : Grant) (b : Bool) → fits (number g N) ≡ b →
+      FoundFits (cond b (Ok (Enter by (record { 0 = place g (number g N) }))) (Err refusal.Full))
+  entering_fits by k g true e = (k, let l = has_lt g (number g N) (number_has g N) in let s = fits_small (number g N) e in omega arith)
+  entering_fits by k g false e = tt
 
   -- the number of a grant that has one
   numbered_fits : (g : Grant) → has g N ≡ true → place g N < grants
   numbered_fits g e = let l = has_lt g N e in omega arith
 
-  removing_fits : (by : Status) → StatusRange by → (g : Grant) (n : ℕ) (b : Bool) → has g N ≡ b →
-      FoundFits (cond b (found.Asks (Remove by (record { 0 = place g N })) n) (found.Unknown n))
-  removing_fits by k g n true e = (k, numbered_fits g e)
-  removing_fits by k g n false e = tt
+  removing_fits : (by : Status) → StatusRange by → (g : Grant) (b : Bool) → has g N ≡ b →
+      FoundFits (cond b (Ok (Remove by (record { 0 = place g N }))) (Err refusal.Absent))
+  removing_fits by k g true e = (k, numbered_fits g e)
+  removing_fits by k g false e = tt
 
-  confirming_fits : (p : Prin) → StatusRange (Issued p) → (g : Grant) (n : ℕ) (b : Bool) → has g N ≡ b →
-      FoundFits (cond b (found.Asks (Confirm p (record { 0 = place g N })) n) (found.Unknown n))
-  confirming_fits p k g n true e = (k, numbered_fits g e)
-  confirming_fits p k g n false e = tt
+  confirming_fits : (p : Prin) → StatusRange (Issued p) → (g : Grant) (b : Bool) → has g N ≡ b →
+      FoundFits (cond b (Ok (Confirm p (record { 0 = place g N }))) (Err refusal.Absent))
+  confirming_fits p k g true e = (k, numbered_fits g e)
+  confirming_fits p k g false e = tt
 
-  previewing_fits : (p : Prin) → StatusRange (Issued p) → (g : Grant) (n : ℕ) (b : Bool) → has g N ≡ b →
-      FoundFits (cond b (found.Asks (Preview p (record { 0 = place g N })) n) (found.Unknown n))
-  previewing_fits p k g n true e = (k, numbered_fits g e)
-  previewing_fits p k g n false e = tt
+  previewing_fits : (p : Prin) → StatusRange (Issued p) → (g : Grant) (b : Bool) → has g N ≡ b →
+      FoundFits (cond b (Ok (Preview p (record { 0 = place g N }))) (Err refusal.Absent))
+  previewing_fits p k g true e = (k, numbered_fits g e)
+  previewing_fits p k g false e = tt
 
-  query_fits : (c : Concl) (n : ℕ) → AllowedConcl 0 0 c → (b : Bool) → fits (number_concl c N) ≡ b →
-      FoundFits (cond b (found.Asks (Query (concl_of (number_concl c N) c)) n) (found.Full n))
-  query_fits c n a true e = let l = number_lt (concl_of (number_concl c N) c) (concl_closed c N a e) in omega arith
-  query_fits c n a false e = tt
+  query_fits : (c : Concl) → AllowedConcl 0 0 c → (b : Bool) → fits (number_concl c N) ≡ b →
+      FoundFits (cond b (Ok (Query (concl_of (number_concl c N) c))) (Err refusal.Full))
+  query_fits c a true e = let l = number_lt (concl_of (number_concl c N) c) (concl_closed c N a e) in omega arith
+  query_fits c a false e = tt
 
-  record_fits : (s : List ℕ) (q : Record) (n : ℕ) → AllowedRecord q → FoundFits (found_of N (extent s) (got q n))
+  record_fits : (q : Record) (n : ℕ) → AllowedRecord q → FoundFits (found_of N (got q n))
   unfolding found_of AllowedRecord
-  record_fits s (enter by g) n a = entering_fits by a.0 g n (fits (number g N)) refl
-  record_fits s (remove by g) n a = removing_fits by (firm_status by a.0) g n (has g N) refl
-  record_fits s (confirm p g) n a = confirming_fits p a.0 g n (has g N) refl
-  record_fits s (preview p g) n a = previewing_fits p a.0 g n (has g N) refl
-  record_fits s (query c) n a = query_fits c n a.0 (fits (number_concl c N)) refl
+  record_fits (enter by g) n a = entering_fits by a.0 g (fits (number g N)) refl
+  record_fits (remove by g) n a = removing_fits by (firm_status by a.0) g (has g N) refl
+  record_fits (confirm p g) n a = confirming_fits p a.0 g (has g N) refl
+  record_fits (preview p g) n a = previewing_fits p a.0 g (has g N) refl
+  record_fits (query c) n a = query_fits c a.0 (fits (number_concl c N)) refl
 
-  pub found_fits : (s : List ℕ) → FoundFits (found_of N (extent s) (read_canonical s))
+  pub found_fits : (s : List ℕ) → FoundFits (found_of N (read_canonical s))
   unfolding found_of
   found_fits s = go (read_canonical s) refl
     where
-      go : (o : Outcome Record) → read_canonical s ≡ o → FoundFits (found_of N (extent s) o)
-      go (got q n) e = record_fits s q n (canonical_exact s q n e).0
+      go : (o : Outcome Record) → read_canonical s ≡ o → FoundFits (found_of N o)
+      go (got q n) e = record_fits q n (canonical_exact s q n e).0
       go (refused k) e = tt

@@ -5,11 +5,11 @@ use mathlib.Core.Option.{some}
 use native.Mathlib.Omega.{arith}
 use mathlib.Core.Logic.{inl, inr}
 use Prim.Native.Nat.{ℕ}
+use Rattle.std.specs.Prelude.{Result, Ok, Err}
 use Rattle.rows.specs.declared.Table.{Table}
-use Rattle.contents.specs.Requests.{number_found, used_found}
+use Rattle.contents.specs.Requests.{number_found}
 use Rattle.reader.specs.Requests.{Reads}
-use Rattle.contents.specs.declared.Found.{Found}
-use Rattle.contents.specs.declared.Found.TheVariants as found
+use Rattle.contents.specs.declared.Request.{Request}
 use Rattle.contents.specs.declared.Reading.{Reading}
 use Rattle.machine.specs.Machine.{step}
 use Rattle.bookform.specs.declared.Book.{Book}
@@ -41,8 +41,6 @@ called_formed b m k v s r a n l w f R e h g p = record {
 }
 
 -- What the reader turned back is answered with its number and its bytes used, and the book stays.
-pub turned_back : (b : Book) (m l : List ℕ) (t : Table) (f : Found) (k : Refusal) → number_found f ≡ some (refusal_number k) → applied_to b m l t f ≡ refused_with b k (used_found f)
-turned_back b m l t (found.Asks q n) k e = let z : ◌≡◌ {A = ℕ} 0 1 = cc in absurd (omega arith)
-turned_back b m l t (found.Full n) k e = let d : 6 ≡ refusal_number k = cc in ap (λ (j : Refusal). refused_with b j n) (one_number refusal.Full k d)
-turned_back b m l t (found.Unknown n) k e = let d : 7 ≡ refusal_number k = cc in ap (λ (j : Refusal). refused_with b j n) (one_number refusal.Absent k d)
-turned_back b m l t (found.Refused j n) k e = let d : refusal_number j ≡ refusal_number k = cc in ap (λ (i : Refusal). refused_with b i n) (one_number j k d)
+pub turned_back : (b : Book) (m l : List ℕ) (t : Table) (n : ℕ) (f : Result Request Refusal) (k : Refusal) → number_found f ≡ some (refusal_number k) → applied_to b m l t n f ≡ refused_with b k n
+turned_back b m l t n (Ok q) k e = let z : ◌≡◌ {A = ℕ} 0 1 = cc in absurd (omega arith)
+turned_back b m l t n (Err j) k e = let d : refusal_number j ≡ refusal_number k = cc in ap (λ (i : Refusal). refused_with b i n) (one_number j k d)

@@ -2,7 +2,8 @@
 #![tactic(auto)]
 
 ghost use Rattle.std.specs.Prelude.{◌≡◌};
-ghost use Rattle.contents.specs.Inner.Numbered.{starting, no_r, settled, given, num_entry, asked, known, num_revision, num_query, num_licensed, num_licence, num_content};
+ghost use Rattle.ranges.specs.Bytes.{as_result};
+ghost use Rattle.contents.specs.Inner.Numbered.{Makes, starting, no_r, given, known, issuer, num_entry, num_revision, num_query, num_content};
 
 use frames::Kind;
 use ranges::Scope;
@@ -23,41 +24,12 @@ pub enum Request {
     Query(Concl),
 }
 
-// A revision of what stands, whose grant must have a number: its removal, that a principal's provisional licence becomes firm, or the
-// preview of a licence's withdrawal.
-#[derive(Clone, Copy)]
-enum Revision {
-    Remove(Status),
-    Confirm(Prin),
-    Preview(Prin),
-}
-
-// What a record does with a licence: it enters a firm or a provisional one, withdraws one, makes a provisional one firm, or previews
-// its withdrawal.
-#[derive(Clone, Copy)]
-enum Deed {
-    Issue,
-    Provisional,
-    Withdraw,
-    Confirm,
-    Preview,
-}
-
-// What the reader found: a request; a record whose new grants find no numbers left; a record that removes, confirms or previews what
-// has no number; each with the record's length. Or the refusal, with the bytes that are used.
-#[derive(Clone, Copy)]
-pub enum Found {
-    Asks(Request, usize),
-    Full(usize),
-    Unknown(usize),
-    Refused(Refusal, usize),
-}
-
-// What was found, and the table with the record's grants numbered.
+// What was found of a record: its request, or its refusal; the table with its grants numbered; and the bytes that it uses.
 #[derive(Clone, Copy)]
 pub struct Reading {
     pub table: Table,
-    pub found: Found,
+    pub found: Result<Request, Refusal>,
+    pub used: usize,
 }
 
 impl Reading {
@@ -67,7 +39,8 @@ impl Reading {
     {
         Reading {
             table,
-            found: Found::Refused(k, n),
+            found: Err(k),
+            used: n,
         }
     }
 }
@@ -85,38 +58,24 @@ fn given(table: Table, u: Numbering, q: Request, n: usize) -> Reading
     ensures { result ≡ given table u q n }
 {
     if u.full {
-        return Reading {
-            table,
-            found: Found::Full(n),
-        };
+        return Reading::refused(table, n, Refusal::Full);
     }
     Reading {
         table: u.table,
-        found: Found::Asks(q, n),
+        found: Ok(q),
+        used: n,
     }
 }
 
-// The request to revise how grant `no` stands.
-#[tactic(auto, unfolding(crate::specs::Inner::Numbered::asked))]
-fn asked(v: Revision, no: GrantNo) -> Request
-    ensures { result ≡ asked v no }
-{
-    match v {
-        Revision::Remove(by) => Request::Remove(by, no),
-        Revision::Confirm(p) => Request::Confirm(p, no),
-        Revision::Preview(p) => Request::Preview(p, no),
-    }
-}
-
-// What is found of a grant to revise, where `count` numbers were given before it was numbered: it must have one of them.
+// The number of a grant to revise, where `count` numbers were given before it was numbered: it must be one of them.
 #[tactic(auto, unfolding(crate::specs::Inner::Numbered::known))]
-fn known(count: usize, full: bool, v: Revision, no: GrantNo, n: usize) -> Found
-    ensures { result ≡ known count full v no n }
+fn known(count: usize, full: bool, no: GrantNo) -> Result<GrantNo, Refusal>
+    ensures { result ≡ known count full no }
 {
     if full || count <= no.0 as usize {
-        return Found::Unknown(n);
+        return Err(Refusal::Absent);
     }
-    Found::Asks(asked(v, no), n)
+    Ok(no)
 }
 
 // Each of the next reads what follows in a content, over the table of the grants numbered before; a fault ends it.
@@ -124,84 +83,80 @@ fn known(count: usize, full: bool, v: Revision, no: GrantNo, n: usize) -> Found
 // A grant to enter, numbered where it is new.
 #[tactic(auto, unfolding(crate::specs::Inner::Numbered::num_entry))]
 fn read_entry(s: &[u8], at: usize, by: Status, t: Numbering) -> Result<Reading, Refusal>
-    ensures { settled t.table result ≡ num_entry by s.now at t.table }
+    ensures { result ≡ num_entry by s.now at t.table }
 {
     let mut u = start(t);
     let (no, n) = canonread::read_grant(s, at, &mut u)?;
     Ok(given(t.table, u, Request::Enter(by, no), n))
 }
 
-// A grant to revise; nothing is numbered.
-#[tactic(auto, unfolding(crate::specs::Inner::Numbered::num_revision))]
-fn read_revision(s: &[u8], at: usize, v: Revision, t: Numbering) -> Result<Reading, Refusal>
-    ensures { settled t.table result ≡ num_revision v s.now at t.table }
+// A grant to revise, and what is asked of its number; nothing is numbered.
+fn read_revision<F: FnOnce(GrantNo) -> Request>(
+    s: &[u8],
+    at: usize,
+    asks: F,
+    t: Numbering,
+) -> Result<Reading, Refusal>
+    requires { F.IsAlwaysCallable asks }
+    ensures { (q : GrantNo → Request) → Makes (F.post asks) q → result ≡ num_revision q s.now at t.table }
 {
     let mut u = start(t);
     let (no, n) = canonread::read_grant(s, at, &mut u)?;
-    let found = known(t.table.count, u.full, v, no, n);
     Ok(Reading {
         table: t.table,
-        found,
+        found: known(t.table.count, u.full, no).map(asks),
+        used: n,
     })
 }
 
 // The closed conclusion of a query, its grants numbered where they are new.
 #[tactic(auto, unfolding(crate::specs::Inner::Numbered::num_query))]
-fn read_query(s: &[u8], at: usize, t: Numbering) -> Result<Reading, Refusal>
-    ensures { settled t.table result ≡ num_query s.now at t.table }
+fn read_query(s: &[u8], t: Numbering) -> Result<Reading, Refusal>
+    ensures { result ≡ num_query s.now t.table }
 {
     let nothing = Scope { prins: 0, res: 0 };
     let mut u = start(t);
-    let (what, n) = canonread::read_concl(s, at, nothing, &mut u)?;
+    let (what, n) = canonread::read_concl(s, 0, nothing, &mut u)?;
     Ok(given(t.table, u, Request::Query(what), n))
 }
 
-// The grant of a licence of p, after the issuer byte.
-#[tactic(auto, unfolding(crate::specs::Inner::Numbered::num_licensed))]
-fn read_licensed(s: &[u8], at: usize, d: Deed, p: Prin, t: Numbering) -> Result<Reading, Refusal>
-    ensures { settled t.table result ≡ num_licensed d p s.now at t.table }
+// The issuer, with which a content on a licence begins.
+#[tactic(auto, unfolding(crate::specs::Inner::Numbered::issuer))]
+fn read_issuer(s: &[u8]) -> Result<(Prin, usize), Refusal>
+    ensures { result ≡ as_result (issuer s.now) }
 {
-    match d {
-        Deed::Issue => read_entry(s, at, Status::Issued(p), t),
-        Deed::Provisional => read_entry(s, at, Status::Provisional(p), t),
-        Deed::Withdraw => read_revision(s, at, Revision::Remove(Status::Issued(p)), t),
-        Deed::Confirm => read_revision(s, at, Revision::Confirm(p), t),
-        Deed::Preview => read_revision(s, at, Revision::Preview(p), t),
-    }
+    let (p, n) = ranges::read_upto(LAST_ISSUER, s, 0)?;
+    Ok((Prin(p), n))
 }
 
-// What follows the mark of a record on a licence: the issuer and the grant.
-#[tactic(auto, unfolding(crate::specs::Inner::Numbered::num_licence))]
-fn read_licence(s: &[u8], at: usize, d: Deed, t: Numbering) -> Result<Reading, Refusal>
-    ensures { settled t.table result ≡ num_licence d s.now at t.table }
-{
-    let (p, n) = ranges::read_upto(LAST_ISSUER, s, at)?;
-    read_licensed(s, n, d, Prin(p), t)
-}
-
-// The content of a record, from its first byte on.
+// What a record of kind k with the content c asks, over the table of t; or the first fault in the content.
 #[tactic(auto, unfolding(crate::specs::Inner::Numbered::num_content))]
-fn read_kind(k: Kind, c: &[u8], t: Numbering) -> Result<Reading, Refusal>
-    ensures { settled t.table result ≡ num_content k c.now t.table }
+pub fn read_content(k: Kind, c: &[u8], t: Numbering) -> Result<Reading, Refusal>
+    ensures { result ≡ num_content k c.now t.table }
 {
     match k {
         Kind::Tg => read_entry(c, 0, Status::Trusted, t),
-        Kind::St => read_revision(c, 0, Revision::Remove(Status::Trusted), t),
-        Kind::Li => read_licence(c, 0, Deed::Issue, t),
-        Kind::Wd => read_licence(c, 0, Deed::Withdraw, t),
-        Kind::Qu => read_query(c, 0, t),
-        Kind::Pl => read_licence(c, 0, Deed::Provisional, t),
-        Kind::Cf => read_licence(c, 0, Deed::Confirm, t),
-        Kind::Pv => read_licence(c, 0, Deed::Preview, t),
-    }
-}
-
-// What is found of a record of kind k with the content c, over the table of t; a fault in it uses no bytes.
-pub fn read_content(k: Kind, c: &[u8], t: Numbering) -> Reading
-    ensures { result ≡ num_content k c.now t.table }
-{
-    match read_kind(k, c, t) {
-        Ok(r) => r,
-        Err(fault) => Reading::refused(t.table, 0, fault),
+        Kind::St => read_revision(c, 0, |no| Request::Remove(Status::Trusted, no), t),
+        Kind::Li => {
+            let (p, n) = read_issuer(c)?;
+            read_entry(c, n, Status::Issued(p), t)
+        }
+        Kind::Wd => {
+            let (p, n) = read_issuer(c)?;
+            read_revision(c, n, |no| Request::Remove(Status::Issued(p), no), t)
+        }
+        Kind::Qu => read_query(c, t),
+        Kind::Pl => {
+            let (p, n) = read_issuer(c)?;
+            read_entry(c, n, Status::Provisional(p), t)
+        }
+        Kind::Cf => {
+            let (p, n) = read_issuer(c)?;
+            read_revision(c, n, |no| Request::Confirm(p, no), t)
+        }
+        Kind::Pv => {
+            let (p, n) = read_issuer(c)?;
+            read_revision(c, n, |no| Request::Preview(p, no), t)
+        }
     }
 }

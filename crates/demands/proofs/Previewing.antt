@@ -6,6 +6,7 @@ use mathlib.Core.List.{List}
 use mathlib.Core.Logic.{◌⊎◌, inl, inr}
 use native.Mathlib.Omega.{arith}
 use lib.ListN.{length}
+use Rattle.std.specs.Prelude.{Result, Ok, Err}
 use native.Mathlib.Decide.{ℕ_discrete}
 use Rattle.sorts.specs.Numbers.{all_marks}
 use Rattle.sorts.specs.declared.Prin.{Prin}
@@ -18,14 +19,12 @@ use Rattle.rows.specs.Written.{Grant}
 use Rattle.rows.specs.Numbering.{place, has}
 use Rattle.rows.specs.Form.{rows_out}
 use Rattle.ranges.specs.Bytes.{Outcome}
-use Rattle.frames.specs.Frames.{extent}
 use Rattle.contents.specs.Records.{Record, preview}
 use Rattle.reader.specs.Records.{read_canonical}
 use Rattle.contents.specs.Requests.{found_of}
 use Rattle.reader.specs.Inner.OneRecord.{num_record}
+use Rattle.contents.specs.declared.Request.{Request}
 use Rattle.contents.specs.declared.Request.TheVariants.{Remove, Preview}
-use Rattle.contents.specs.declared.Found.{Found}
-use Rattle.contents.specs.declared.Found.TheVariants as found
 use Rattle.reader.proofs.Record.{reads_within}
 use Rattle.exact.proofs.Content.{withdrawn, same_extent, same_canonical, Previewing, licence, fault, preview_only}
 use Rattle.flags.specs.Changes.{there_flags}
@@ -51,11 +50,10 @@ use Rattle.demands.proofs.Reached.{Reached}
 use Rattle.demands.proofs.Demand3.{one_way_lem}
 use Rattle.demands.proofs.Unique.{no_choice}
 
--- what the reader finds of the two: the same fault, the same lack of a number, or the same licence
-data Same : Found → Found → Type 0 where
-  faulty : (j : Refusal) (n : ℕ) → Same (found.Refused j n) (found.Refused j n)
-  unknown : (n : ℕ) → Same (found.Unknown n) (found.Unknown n)
-  licensed : (p : Prin) (g : GrantNo) (n : ℕ) → Same (found.Asks (Preview p g) n) (found.Asks (Remove (Issued p) g) n)
+-- what the reader finds of the two: the same refusal, or the same licence
+data Same : Result Request Refusal → Result Request Refusal → Type 0 where
+  turned_back : (j : Refusal) → Same (Err j) (Err j)
+  licensed : (p : Prin) (g : GrantNo) → Same (Ok (Preview p g)) (Ok (Remove (Issued p) g))
 
 same_refused : (j : Refusal) (b : Book) (n : ℕ) (w m : List ℕ) → Foretold (refused_with b j n) (refused_with b j n) w m
 same_refused j b n w m = record {
@@ -79,25 +77,24 @@ shown_removed b m b' n = record {
     inner_changed : {x y : Counts} → Changed x ≡ Changed y → x ≡ y
     inner_changed e = cc
 
-module _ (b : Book) (m k v : List ℕ) (t t' : Table) where
-  found_same : (f g : Found) → Same f g → Foretold (applied_to b m k t f) (applied_to b m k t' g) (preview_applied_to b v f) (marks_applied_to firm_marks b m t' g)
-  found_same f g (faulty j n) = same_refused j b n v m
-  found_same f g (unknown n) = same_refused refusal.Absent b n v m
-  found_same f g (licensed p num n) = go (there_flags (Issued p) num.0 b.flags)
+module _ (b : Book) (m k v : List ℕ) (t t' : Table) (n : ℕ) where
+  found_same : (f g : Result Request Refusal) → Same f g → Foretold (applied_to b m k t n f) (applied_to b m k t' n g) (preview_applied_to b v f) (marks_applied_to firm_marks b m t' g)
+  found_same f g (turned_back j) = same_refused j b n v m
+  found_same f g (licensed p num) = go (there_flags (Issued p) num.0 b.flags)
     where
       go : (c : Bool) → Foretold (cond c (previewed_by b (removed_book b (Issued p) num.0) m n) (refused_with b refusal.Absent n)) (cond c (changed_to (removed_book b (Issued p) num.0) m n) (refused_with b refusal.Absent n))
           (cond c (firm_marks (removed_book b (Issued p) num.0)) v) (cond c (firm_marks (removed_book b (Issued p) num.0)) m)
       go true = shown_removed b m (removed_book b (Issued p) num.0) n
       go false = same_refused refusal.Absent b n v m
 
-reads_same : (N : List Grant) (u : ℕ) (o : Outcome Record) → Previewing o → Same (found_of N u o) (found_of N u (withdrawn o))
+reads_same : (N : List Grant) (o : Outcome Record) → Previewing o → Same (found_of N o) (found_of N (withdrawn o))
 unfolding found_of
-reads_same N u o (licence p g n) = go (has g N)
+reads_same N o (licence p g n) = go (has g N)
   where
-    go : (c : Bool) → Same (cond c (found.Asks (Preview p (record { 0 = place g N })) n) (found.Unknown n)) (cond c (found.Asks (Remove (Issued p) (record { 0 = place g N })) n) (found.Unknown n))
-    go true = licensed p (record { 0 = place g N }) n
-    go false = unknown n
-reads_same N u o (fault j) = faulty j u
+    go : (c : Bool) → Same (cond c (Ok (Preview p (record { 0 = place g N }))) (Err refusal.Absent)) (cond c (Ok (Remove (Issued p) (record { 0 = place g N }))) (Err refusal.Absent))
+    go true = licensed p (record { 0 = place g N })
+    go false = turned_back refusal.Absent
+reads_same N o (fault j) = turned_back j
 
 -- THE PREVIEW IS WHAT THE WITHDRAWAL LEAVES, whatever book, buffers and content.
 module _ (b : Book) (m k v c : List ℕ) (r q : Answered) (n l w n' l' w' : List ℕ) (C : Called b m k v (preview_of c) r n l w) (D : Called b m k v (withdrawal_of c) q n' l' w') where
@@ -109,12 +106,15 @@ module _ (b : Book) (m k v c : List ℕ) (r q : Answered) (n l w n' l' w' : List
       let N = rows_out b.table.rows b.table.count in
       let x = no_choice b m k v s r _ n _ l _ w _ C (call_some b m k v s f) in
       let y = no_choice b m k v t q _ n' _ l' _ w' _ D (call_some b m k v t f) in
-      let fs = (reads_within s b.table _ f.book.table.count refl).found f.book.table in
-      let ft = (reads_within t b.table _ f.book.table.count refl).found f.book.table in
+      let S = reads_within s b.table _ f.book.table.count refl in
+      let T = reads_within t b.table _ f.book.table.count refl in
       let h : Same (num_record s b.table).found (num_record t b.table).found =
-      subst (λ (z : Found). Same z (num_record t b.table).found) (sym fs)
-      (subst (λ (z : Found). Same (found_of N (extent s) (read_canonical s)) z) (sym (ft ∙ (λ i. found_of N (sym (same_extent c) i) (sym (same_canonical c) i)))) (reads_same N (extent s) (read_canonical s) (preview_only c))) in
-      let F = found_same b m k v (num_record s b.table).table (num_record t b.table).table _ _ h in
+      subst (λ (z : Result Request Refusal). Same z (num_record t b.table).found) (sym (S.found f.book.table))
+      (subst (λ (z : Result Request Refusal). Same (found_of N (read_canonical s)) z) (sym (T.found f.book.table ∙ ap (found_of N) (sym (same_canonical c)))) (reads_same N (read_canonical s) (preview_only c))) in
+      let u : (num_record s b.table).used ≡ (num_record t b.table).used = S.used f.book.table.count ∙ same_extent c ∙ sym (T.used f.book.table.count) in
+      let F : Foretold (applied b m k (num_record s b.table)) (applied b m k (num_record t b.table)) (preview_applied b v (num_record s b.table)) (marks_applied firm_marks b m (num_record t b.table)) =
+      subst (λ (n : ℕ). Foretold (applied b m k (num_record s b.table)) (applied_to b m k (num_record t b.table).table n (num_record t b.table).found) (preview_applied b v (num_record s b.table)) (marks_applied firm_marks b m (num_record t b.table))) u
+      (found_same b m k v (num_record s b.table).table (num_record t b.table).table (num_record s b.table).used _ _ h) in
       subst (λ (z : Answered). Foretold z q w n') (sym x.0)
       (subst (λ (z : Answered). Foretold (applied b m k (num_record s b.table)) z w n') (sym y.0)
       (subst (λ (z : List ℕ). Foretold (applied b m k (num_record s b.table)) (applied b m k (num_record t b.table)) z n') (sym x.3)

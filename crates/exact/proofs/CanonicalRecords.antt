@@ -7,11 +7,12 @@ use lib.ListN.{length, length-append}
 use Rattle.sorts.specs.declared.Status.TheVariants.{Trusted, Issued, Provisional}
 use Rattle.sorts.specs.declared.Refusal.{Refusal}
 use Rattle.ranges.specs.Bytes.{Outcome, got, refused, and_then}
+use Rattle.frames.specs.Frames.{extent}
 use Rattle.contents.specs.Records.{Record, enter, remove, confirm, preview, query, canon_record}
 use Rattle.reader.specs.Records.{read_record, read_canonical}
 use Rattle.exact.proofs.Framing.{in_frame_length}
 use Rattle.exact.specs.Writing.{kind_of, written_status, content_of, written_record, AllowedRecord}
-use Rattle.exact.proofs.Exact.{record_read, record_exact}
+use Rattle.exact.proofs.Exact.{record_read, record_exact, record_extent}
 use Rattle.rows.specs.Written.{Grant, written}
 use Rattle.canon.specs.Canon.{canon, Canonical, CanonicalConcl}
 use Rattle.canon.proofs.Form.{canon_canonical, concl_canonical, canonical_own, concl_own}
@@ -114,3 +115,7 @@ canonical_exact s r n e =
     let x = canonical_got s r n e in
     let w = record_exact s x.0 n x.1 in
     (subst AllowedRecord (sym x.2) (record_allowed x.0 w.2), subst CanonicalRecord (sym x.2) (record_canonical x.0), w.1)
+
+-- and its length is that of its frame
+pub canonical_extent : (s : List ℕ) (r : Record) (n : ℕ) → read_canonical s ≡ got r n → n ≡ extent s
+canonical_extent s r n e = let x = canonical_got s r n e in record_extent s x.0 n x.1

@@ -7,106 +7,100 @@ use mathlib.Core.Logic.{◌↔◌}
 use mathlib.Core.Option.{some}
 use native.Mathlib.Omega.{arith}
 use lib.ListN.{length}
+use Rattle.std.specs.Prelude.{Result, Ok, Err}
+use Rattle.std.specs.Result.{IfOk}
 use lib.Dec.{eqb}
 use Rattle.sorts.specs.Numbers.{grants}
+use Rattle.sorts.specs.declared.Refusal.{Refusal}
 use Rattle.sorts.specs.declared.Refusal.TheVariants as refusal
 use Rattle.rows.specs.declared.Table.{Table}
 use Rattle.rows.specs.Written.{Grant}
-use Rattle.rows.specs.Numbering.{has, number, number_concl}
 use Rattle.rows.specs.Form.{rows_out, TableForm}
 use Rattle.ranges.specs.Bytes.{Outcome, got, refused, and_then}
 use Rattle.frames.specs.Frames.{Frame, holds, ends, frame, frame_length, extent}
 use Rattle.contents.specs.declared.Request.{Request}
-use Rattle.contents.specs.declared.Request.TheVariants.{Enter, Remove, Confirm, Preview, Query}
-use Rattle.contents.specs.declared.Found.{Found}
-use Rattle.contents.specs.declared.Found.TheVariants.{Asks, Full, Unknown, Refused}
 use Rattle.contents.specs.declared.Reading.{Reading}
 use Rattle.contents.specs.Records.{Record, enter, remove, confirm, preview, query, read_content, canon_record}
-use Rattle.contents.specs.Requests.{number_found, fits, found_of, numbered_by, numbers, TurnedBack}
+use Rattle.contents.specs.Requests.{number_found, found_of, numbered_by, TurnedBack}
 use Rattle.contents.specs.Inner.Numbered.{no_r, num_content}
-use Rattle.contents.proofs.Contents.{RightUsing, Right, Keeps, in_form, content_right, content_keeps, found_number}
-use Rattle.reader.specs.Records.{fitted, read_whole, framed, read_record, read_canonical}
+use Rattle.contents.proofs.Contents.{RightReading, Right, fault, whole, Keeps, in_form, content_right, content_keeps, found_number}
+use Rattle.reader.specs.Records.{beyond, fitted, read_whole, framed, read_record, read_canonical}
 use Rattle.reader.specs.Requests.{Reads}
-use Rattle.reader.specs.Inner.OneRecord.{ending, whole_of, num_whole, num_framed, num_record}
+use Rattle.reader.specs.Inner.OneRecord.{num_whole, num_framed, num_record}
 
 module _ (t : Table) (f : TableForm t) where
   abbrev N : List Grant
   N = rows_out t.rows t.count
 
-  -- with its frame
+  refused_right : (u : ℕ) (k : Refusal) → RightReading N (refused k) (no_r t u k)
+  unfolding found_of numbered_by
+  refused_right u k = record { found = refl; rows = refl; form = f }
 
-  module _ (len : ℕ) where
-    -- what was found ends with the content, or it does not
-    ends_right : (o : Outcome Record) (n : ℕ) (r : Reading) (b : Bool) → eqb n len ≡ b → (b ≡ true → RightUsing (4 + len) N t o r) →
-        RightUsing (4 + len) N t (cond b o (refused refusal.Content)) (cond b r (no_r t (4 + len) refusal.Content))
-    unfolding found_of numbered_by
-    ends_right o n r true e h = h refl
-    ends_right o n r false e h = record { found = refl; rows = refl; form = f }
+  -- what is found of a record, and the rows, are not a matter of its length
+  any_length : (q : Record) (n m u : ℕ) (r : Reading) → RightReading N (got q n) r → RightReading N (got q m) (record { table = r.table; found = r.found; used = u })
+  unfolding found_of numbered_by
+  any_length (enter by g) n m u r h = record { found = h.found; rows = h.rows; form = h.form }
+  any_length (remove by g) n m u r h = record { found = h.found; rows = h.rows; form = h.form }
+  any_length (confirm p g) n m u r h = record { found = h.found; rows = h.rows; form = h.form }
+  any_length (preview p g) n m u r h = record { found = h.found; rows = h.rows; form = h.form }
+  any_length (query c) n m u r h = record { found = h.found; rows = h.rows; form = h.form }
 
-    -- what was found of a record that was read, and ended at n
-    module _ (n : ℕ) (u : Table) (g : TableForm u) where
-      asks_or : (other : ℕ → Found) → whole_of t len u (other n) ≡ ending t len n (record { table = u; found = other (4 + len) }) → (c : Bool) (q : Request) (r : Record) →
-          found_of N (4 + len) (got r (4 + len)) ≡ cond c (Asks q (4 + len)) (other (4 + len)) → rows_out u.rows u.count ≡ numbered_by N (got r (4 + len)) →
-          RightUsing (4 + len) N t (cond (eqb n len) (got r (4 + len)) (refused refusal.Content)) (whole_of t len u (cond c (Asks q n) (other n)))
-      asks_or other is true q r e p =
-          ends_right (got r (4 + len)) n (record { table = u; found = Asks q (4 + len) }) (eqb n len) refl (λ _. record { found = sym e; rows = p; form = g })
-      asks_or other is false q r e p =
-          rw is (ends_right (got r (4 + len)) n (record { table = u; found = other (4 + len) }) (eqb n len) refl (λ _. record { found = sym e; rows = p; form = g }))
+  -- of a content of len bytes that was read as o, in form
+  whole_right : (len : ℕ) (o : Outcome Record) (r : Result Reading Refusal) → Right N (in_form o) r → RightReading N (in_form (and_then (fitted len o) (λ x n. got x (4 + len)))) (num_whole t len r)
+  unfolding num_whole
+  whole_right len (refused j) (Err k) (fault i) = refused_right (4 + len) (beyond i)
+  whole_right len (refused j) (Ok r) h = elim h [ ]
+  whole_right len (got x n) (Err k) h = elim h [ ]
+  whole_right len (got x n) (Ok r) (whole q m v h e) = rw e (ends (eqb n len))
+    where
+      ends : (b : Bool) →
+          RightReading N (in_form (and_then (cond b (got x n) (refused refusal.Content)) (λ y m. got y (4 + len))))
+          (cond b (record { table = r.table; found = r.found; used = 4 + len }) (no_r t (4 + len) refusal.Content))
+      ends true = any_length (canon_record x) n (4 + len) (4 + len) r h
+      ends false = refused_right (4 + len) refusal.Content
 
-      found_ends : (r : Record) → rows_out u.rows u.count ≡ numbered_by N (got r n) →
-          RightUsing (4 + len) N t (cond (eqb n len) (got r (4 + len)) (refused refusal.Content)) (whole_of t len u (found_of N 0 (got r n)))
-      unfolding found_of numbered_by
-      found_ends (enter by x) p = asks_or Full refl (fits (number x N)) _ (enter by x) refl p
-      found_ends (remove by x) p = asks_or Unknown refl (has x N) _ (remove by x) refl p
-      found_ends (confirm q x) p = asks_or Unknown refl (has x N) _ (confirm q x) refl p
-      found_ends (preview q x) p = asks_or Unknown refl (has x N) _ (preview q x) refl p
-      found_ends (query c) p = asks_or Full refl (fits (number_concl c N)) _ (query c) refl p
-
-    -- a record in form, of a content that was read as o
-    whole_right : (o : Outcome Record) (r : Reading) → Right N t (in_form o) r →
-        RightUsing (4 + len) N t (in_form (and_then (fitted len o) (λ x n. got x (4 + len)))) (whole_of t len r.table r.found)
-    unfolding found_of numbered_by
-    whole_right (refused j) r h = rw h.found (record { found = refl; rows = refl; form = f })
-    whole_right (got x n) r h = rw (h.found, shape (eqb n len)) (found_ends n r.table h.form (canon_record x) h.rows)
-      where
-        shape : (b : Bool) → in_form (and_then (cond b (got x n) (refused refusal.Content)) (λ y m. got y (4 + len))) ≡ cond b (got (canon_record x) (4 + len)) (refused refusal.Content)
-        shape true = refl
-        shape false = refl
-
-  record_right : (s : List ℕ) → RightUsing (extent s) N t (read_canonical s) (num_record s t)
-  unfolding read_canonical read_record read_whole extent num_record num_whole found_of numbered_by
+  record_right : (s : List ℕ) → RightReading N (read_canonical s) (num_record s t)
+  unfolding read_canonical read_record read_whole num_record
   record_right s = go (frame s)
     where
-      go : (x : Frame) → RightUsing (frame_length x) N t (in_form (framed x)) (num_framed t x)
+      go : (x : Frame) → RightReading N (in_form (framed x)) (num_framed t x)
       go (holds k c) = whole_right (length c) (read_content k c) (num_content k c t) (content_right t f c k)
-      go (ends j) = record { found = refl; rows = refl; form = f }
+      go (ends j) = refused_right 0 j
 
--- A record that numbers nothing keeps the table, in form or not.
+-- The bytes used, and a table that is kept, where the table is in form or not.
 
--- whether a request gives numbers is not a matter of its length
-asks_numbers : (q : Request) (n m : ℕ) → numbers (Asks q n) ≡ numbers (Asks q m)
-asks_numbers (Enter by g) n m = refl
-asks_numbers (Remove by g) n m = refl
-asks_numbers (Confirm p g) n m = refl
-asks_numbers (Preview p g) n m = refl
-asks_numbers (Query c) n m = refl
+whole_used : (t : Table) (len : ℕ) (r : Result Reading Refusal) → (num_whole t len r).used ≡ 4 + len
+unfolding num_whole
+whole_used t len (Err k) = refl
+whole_used t len (Ok r) = go (eqb r.used len)
+  where
+    go : (b : Bool) → (cond b (record { table = r.table; found = r.found; used = 4 + len }) (no_r t (4 + len) refusal.Content)).used ≡ 4 + len
+    go true = refl
+    go false = refl
 
-ending_keeps : (t : Table) (len : ℕ) (r : Reading) → Keeps t r → (b : Bool) → Keeps t (cond b r (no_r t (4 + len) refusal.Content))
-ending_keeps t len r h true = h
-ending_keeps t len r h false = λ e. refl
+record_used : (s : List ℕ) (t : Table) → (num_record s t).used ≡ extent s
+unfolding num_record extent
+record_used s t = go (frame s)
+  where
+    go : (x : Frame) → (num_framed t x).used ≡ frame_length x
+    go (holds k c) = whole_used t (length c) (num_content k c t)
+    go (ends j) = refl
 
-whole_keeps : (t : Table) (len : ℕ) (u : Table) (x : Found) → (numbers x ≡ false → u ≡ t) → Keeps t (whole_of t len u x)
-whole_keeps t len u (Asks q n) h = ending_keeps t len (record { table = u; found = Asks q (4 + len) }) (λ e. h (asks_numbers q n (4 + len) ∙ e)) (eqb n len)
-whole_keeps t len u (Full n) h = ending_keeps t len (record { table = u; found = Full (4 + len) }) (λ e. h refl) (eqb n len)
-whole_keeps t len u (Unknown n) h = ending_keeps t len (record { table = u; found = Unknown (4 + len) }) (λ e. h refl) (eqb n len)
-whole_keeps t len u (Refused k n) h = λ e. refl
+whole_keeps : (t : Table) (len : ℕ) (r : Result Reading Refusal) → IfOk r (Keeps t) → Keeps t (num_whole t len r)
+unfolding num_whole
+whole_keeps t len (Err k) h = λ e. refl
+whole_keeps t len (Ok r) h = go (eqb r.used len)
+  where
+    go : (b : Bool) → Keeps t (cond b (record { table = r.table; found = r.found; used = 4 + len }) (no_r t (4 + len) refusal.Content))
+    go true = h
+    go false = λ e. refl
 
 record_keeps : (s : List ℕ) (t : Table) → Keeps t (num_record s t)
-unfolding num_record num_whole
+unfolding num_record
 record_keeps s t = go (frame s)
   where
     go : (x : Frame) → Keeps t (num_framed t x)
-    go (holds k c) = let R = num_content k c t in whole_keeps t (length c) R.table R.found (content_keeps k c t)
+    go (holds k c) = whole_keeps t (length c) (num_content k c t) (content_keeps k c t)
     go (ends j) = λ e. refl
 
 -- The promise, by whether the count is one of a book.
@@ -115,6 +109,7 @@ pub reads_over : (s : List ℕ) (t : Table) (r : Reading) → grants < t.count �
 reads_over s t r l e = record {
   over = λ h. e;
   found = λ f. let c = f.count in absurd (omega arith);
+  used = λ h. absurd (omega arith);
   rows = λ f. let c = f.count in absurd (omega arith);
   refusals = λ f. let c = f.count in absurd (omega arith);
   form = λ f. let c = f.count in absurd (omega arith);
@@ -127,10 +122,11 @@ reads_within s t r l e =
     subst (Reads s t) (sym e) (record {
       over = λ h. absurd (omega arith);
       found = λ f. (record_right t f s).found;
+      used = λ h. record_used s t;
       rows = λ f. (record_right t f s).rows;
       refusals = λ f k.
-          subst (λ (x : Found). (number_found x ≡ some k) ↔ TurnedBack (rows_out t.rows t.count) (read_canonical s) k) (sym (record_right t f s).found)
-          (found_number k (rows_out t.rows t.count) (extent s) (read_canonical s));
+          subst (λ (x : Result Request Refusal). (number_found x ≡ some k) ↔ TurnedBack (rows_out t.rows t.count) (read_canonical s) k) (sym (record_right t f s).found)
+          (found_number k (rows_out t.rows t.count) (read_canonical s));
       form = λ f. (record_right t f s).form;
       kept = record_keeps s t;
       within = λ h. refl;

@@ -4,23 +4,12 @@ ghost use Rattle.frames.specs.Inner.Told.{longest};
 ghost use Rattle.contents.specs.Inner.Numbered.{num_content};
 ghost use Rattle.reader.specs.Records.{beyond};
 ghost use Rattle.reader.specs.Requests.{Reads};
-ghost use Rattle.reader.specs.Inner.OneRecord.{ending, num_whole};
+ghost use Rattle.reader.specs.Inner.OneRecord.{num_whole};
 
-use contents::{Found, Reading};
+use contents::Reading;
 use frames::Kind;
 use rows::{Numbering, Table};
 use sorts::Refusal;
-
-// What was found in a content of len bytes, where it ended at n: it must end with them.
-fn ending(t: Table, len: usize, n: usize, table: Table, found: Found) -> Reading
-    requires { len ≤ longest }
-    ensures { result ≡ ending t len n (record { table = table; found = found }) }
-{
-    if n == len {
-        return Reading { table, found };
-    }
-    Reading::refused(t, frames::HEADER + len, Refusal::Content)
-}
 
 // A fault in a content: a byte that is missing there is one beyond the stated length.
 fn beyond(k: Refusal) -> Refusal
@@ -32,18 +21,17 @@ fn beyond(k: Refusal) -> Refusal
     }
 }
 
-// What was found in a content of len bytes, over the table t, as that of the whole record.
-fn whole(t: Table, len: usize, r: Reading) -> Reading
+// What was read of a content of len bytes, over the table t, as that of the whole record: it must end with these bytes.
+#[tactic(auto, unfolding(crate::specs::Inner::OneRecord::num_whole))]
+fn whole(t: Table, len: usize, r: Result<Reading, Refusal>) -> Reading
     requires { len ≤ longest }
     ensures { result ≡ num_whole t len r }
 {
-    let table = r.table;
     let used = frames::HEADER + len;
-    match r.found {
-        Found::Asks(q, n) => ending(t, len, n, table, Found::Asks(q, used)),
-        Found::Full(n) => ending(t, len, n, table, Found::Full(used)),
-        Found::Unknown(n) => ending(t, len, n, table, Found::Unknown(used)),
-        Found::Refused(k, _) => Reading::refused(t, used, beyond(k)),
+    match r {
+        Ok(r) if r.used == len => Reading { used, ..r },
+        Ok(_) => Reading::refused(t, used, Refusal::Content),
+        Err(k) => Reading::refused(t, used, beyond(k)),
     }
 }
 
@@ -52,8 +40,7 @@ fn read_framed(k: Kind, c: &[u8], t: Numbering) -> Reading
     requires { length c.now ≤ longest }
     ensures { result ≡ num_whole t.table (length c.now) (num_content k c.now t.table) }
 {
-    let r = contents::read_content(k, c, t);
-    whole(t.table, c.len(), r)
+    whole(t.table, c.len(), contents::read_content(k, c, t))
 }
 
 // The record that s starts with, over a table of grants numbered before.

@@ -2,6 +2,8 @@
 use Prim.Native.Nat.{ℕ, ◌<◌}
 use mathlib.Core.Path.{◌≡◌, subst, ap}
 use mathlib.Core.List.{List}
+use Rattle.std.specs.Prelude.{Result, Ok}
+use Rattle.sorts.specs.declared.Refusal.{Refusal}
 use Rattle.sorts.specs.declared.GrantNo.{GrantNo}
 use Rattle.sorts.specs.declared.Prin.{Prin}
 use Rattle.sorts.specs.declared.Concl.{Concl}
@@ -11,15 +13,13 @@ use Rattle.sorts.specs.Numbers.{number_of, all_marks, grants}
 use Rattle.sorts.specs.Flags.{StatusRange}
 use Rattle.contents.specs.declared.Request.{Request}
 use Rattle.contents.specs.declared.Request.TheVariants.{Enter, Remove, Confirm, Preview, Query}
-use Rattle.contents.specs.declared.Found.{Found}
-use Rattle.contents.specs.declared.Found.TheVariants.{Asks}
 use Rattle.contents.specs.declared.Reading.{Reading}
 use Rattle.bookform.specs.declared.Book.{Book}
 use Rattle.requests.specs.Inner.Apply.{FoundFits, Ready}
 
-module _ (q : Request) (n : ℕ) (h : FoundFits (Asks q n)) where
-  found_as : (q' : Request) → q ≡ q' → FoundFits (Asks q' n)
-  found_as q' d = subst FoundFits (ap (λ (x : Request). Asks x n) d) h
+module _ (q : Request) (h : FoundFits (Ok q)) where
+  found_as : (q' : Request) → q ≡ q' → FoundFits (Ok q')
+  found_as q' d = subst FoundFits (ap (λ (x : Request). Ok x) d) h
 
   pub fits_enter : (by : Status) (g : GrantNo) → q ≡ Enter by g → StatusRange by × (g.0 < grants)
   fits_enter by g d = found_as (Enter by g) d
@@ -37,5 +37,5 @@ module _ (q : Request) (n : ℕ) (h : FoundFits (Asks q n)) where
   fits_query c d = found_as (Query c) d
 
 -- ready for what was read, by what was found
-pub ready_for : (b : Book) (m k v : List ℕ) (r : Reading) (f : Found) → r.found ≡ f → Ready b m k v r → Ready b m k v (record { table = r.table; found = f })
-ready_for b m k v r f e R = subst (λ (x : Found). Ready b m k v (record { table = r.table; found = x })) e R
+pub ready_for : (b : Book) (m k v : List ℕ) (r : Reading) (q : Request) → r.found ≡ Ok q → Ready b m k v r → Ready b m k v (record { table = r.table; found = Ok q; used = r.used })
+ready_for b m k v r q e R = subst (λ (x : Result Request Refusal). Ready b m k v (record { table = r.table; found = x; used = r.used })) e R

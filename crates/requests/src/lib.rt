@@ -1,15 +1,14 @@
 // What was read of a record, done.
 #![tactic(auto)]
 
-ghost use Rattle.std.specs.Prelude.{◌≡◌};
+ghost use Rattle.std.specs.Prelude.{◌≡◌, Ok};
 ghost use Rattle.renewing.specs.Inner.Buffers.{firm_marks, both_marks};
 ghost use Rattle.requests.specs.Inner.Apply.{Ready, applied, marks_applied, preview_applied};
 
 use answer::{Answered, refuse};
 use bookform::Book;
-use contents::{Found, Reading, Request};
+use contents::{Reading, Request};
 use rows::Table;
-use sorts::Refusal;
 
 // What a record asks, done.
 fn act(
@@ -21,11 +20,11 @@ fn act(
     second: &mut [u8],
     preview: &mut [u8],
 ) -> Answered
-    requires { Ready b marks.old second.old preview.old (record { table = t; found = Found.Asks q n }) }
-    ensures value { result ≡ applied b marks.old second.old (record { table = t; found = Found.Asks q n }) }
-    ensures marks { marks.new ≡ marks_applied firm_marks b marks.old (record { table = t; found = Found.Asks q n }) }
-    ensures second { second.new ≡ marks_applied both_marks b second.old (record { table = t; found = Found.Asks q n }) }
-    ensures preview { preview.new ≡ preview_applied b preview.old (record { table = t; found = Found.Asks q n }) }
+    requires { Ready b marks.old second.old preview.old (record { table = t; found = Ok q; used = n }) }
+    ensures value { result ≡ applied b marks.old second.old (record { table = t; found = Ok q; used = n }) }
+    ensures marks { marks.new ≡ marks_applied firm_marks b marks.old (record { table = t; found = Ok q; used = n }) }
+    ensures second { second.new ≡ marks_applied both_marks b second.old (record { table = t; found = Ok q; used = n }) }
+    ensures preview { preview.new ≡ preview_applied b preview.old (record { table = t; found = Ok q; used = n }) }
 {
     match q {
         Request::Enter(by, no) => revising::enter(b, t, by, no, marks, second, n),
@@ -51,9 +50,7 @@ pub fn apply(
     ensures preview { preview.new ≡ preview_applied b preview.old r }
 {
     match r.found {
-        Found::Refused(k, n) => refuse(b, k, n),
-        Found::Full(n) => refuse(b, Refusal::Full, n),
-        Found::Unknown(n) => refuse(b, Refusal::Absent, n),
-        Found::Asks(q, n) => act(b, r.table, q, n, marks, second, preview),
+        Ok(q) => act(b, r.table, q, r.used, marks, second, preview),
+        Err(k) => refuse(b, k, r.used),
     }
 }

@@ -4,19 +4,19 @@ use Rattle.requests.proofs.Fits.{fits_enter, fits_remove, fits_confirm, fits_pre
 use Rattle.requests.proofs.act.Goals as goal
 
 pub enter-requires : goal.enter-requires
-enter-requires c = let h = fits_enter _ c.args.n c.requires.fits _ _ c.in-Enter.is in (h.0, h.1, c.requires.next, c.requires.marks, c.requires.second)
+enter-requires c = let h = fits_enter _ c.requires.fits _ _ c.in-Enter.is in (h.0, h.1, c.requires.next, c.requires.marks, c.requires.second)
 
 pub remove-requires : goal.remove-requires
-remove-requires c = let h = fits_remove _ c.args.n c.requires.fits _ _ c.in-Remove.is in (h.0, h.1, c.requires.rows, c.requires.marks, c.requires.second)
+remove-requires c = let h = fits_remove _ c.requires.fits _ _ c.in-Remove.is in (h.0, h.1, c.requires.rows, c.requires.marks, c.requires.second)
 
 pub confirm-requires : goal.confirm-requires
-confirm-requires c = let h = fits_confirm _ c.args.n c.requires.fits _ _ c.in-Confirm.is in (h.0, h.1, c.requires.rows, c.requires.marks, c.requires.second)
+confirm-requires c = let h = fits_confirm _ c.requires.fits _ _ c.in-Confirm.is in (h.0, h.1, c.requires.rows, c.requires.marks, c.requires.second)
 
 pub show_removed-requires : goal.show_removed-requires
-show_removed-requires c = let h = fits_preview _ c.args.n c.requires.fits _ _ c.in-Preview.is in (h.0, h.1, c.requires.rows, c.requires.marks, c.requires.preview)
+show_removed-requires c = let h = fits_preview _ c.requires.fits _ _ c.in-Preview.is in (h.0, h.1, c.requires.rows, c.requires.marks, c.requires.preview)
 
 pub query-requires : goal.query-requires
-query-requires c = let l = fits_query _ c.args.n c.requires.fits _ c.in-Query.is in (omega arith, omega arith)
+query-requires c = let l = fits_query _ c.requires.fits _ c.in-Query.is in (omega arith, omega arith)
 
 pub returns-in-Enter-clause-value : goal.returns-in-Enter-clause-value
 unfolding applied marks_applied preview_applied

@@ -3,68 +3,36 @@ use Rattle.requests.proofs.Fits.{ready_for}
 use Rattle.requests.proofs.apply.Goals as goal
 
 pub act-requires : goal.act-requires
-act-requires c = ready_for _ _ _ _ c.args.r _ c.in-Asks.is c.requires
+act-requires c = ready_for _ _ _ _ c.args.r _ c.in-Ok.is c.requires
 
-pub returns-in-Refused-clause-value : goal.returns-in-Refused-clause-value
+pub returns-in-Ok-clause-value : goal.returns-in-Ok-clause-value
 unfolding applied marks_applied preview_applied
-returns-in-Refused-clause-value c = rw c.in-Refused.is c.refuse.ensures
+returns-in-Ok-clause-value c = rw c.in-Ok.is c.act.ensures.value
 
-pub returns-in-Refused-clause-marks : goal.returns-in-Refused-clause-marks
+pub returns-in-Ok-clause-marks : goal.returns-in-Ok-clause-marks
 unfolding applied marks_applied preview_applied
-returns-in-Refused-clause-marks c = rw c.in-Refused.is
+returns-in-Ok-clause-marks c = rw c.in-Ok.is c.act.ensures.marks
 
-pub returns-in-Refused-clause-second : goal.returns-in-Refused-clause-second
+pub returns-in-Ok-clause-second : goal.returns-in-Ok-clause-second
 unfolding applied marks_applied preview_applied
-returns-in-Refused-clause-second c = rw c.in-Refused.is
+returns-in-Ok-clause-second c = rw c.in-Ok.is c.act.ensures.second
 
-pub returns-in-Refused-clause-preview : goal.returns-in-Refused-clause-preview
+pub returns-in-Ok-clause-preview : goal.returns-in-Ok-clause-preview
 unfolding applied marks_applied preview_applied
-returns-in-Refused-clause-preview c = rw c.in-Refused.is
+returns-in-Ok-clause-preview c = rw c.in-Ok.is c.act.ensures.preview
 
-pub returns-in-Full-clause-value : goal.returns-in-Full-clause-value
+pub returns-in-Err-clause-value : goal.returns-in-Err-clause-value
 unfolding applied marks_applied preview_applied
-returns-in-Full-clause-value c = rw c.in-Full.is c.refuse-in-Full.ensures
+returns-in-Err-clause-value c = rw c.in-Err.is c.refuse.ensures
 
-pub returns-in-Full-clause-marks : goal.returns-in-Full-clause-marks
+pub returns-in-Err-clause-marks : goal.returns-in-Err-clause-marks
 unfolding applied marks_applied preview_applied
-returns-in-Full-clause-marks c = rw c.in-Full.is
+returns-in-Err-clause-marks c = rw c.in-Err.is
 
-pub returns-in-Full-clause-second : goal.returns-in-Full-clause-second
+pub returns-in-Err-clause-second : goal.returns-in-Err-clause-second
 unfolding applied marks_applied preview_applied
-returns-in-Full-clause-second c = rw c.in-Full.is
+returns-in-Err-clause-second c = rw c.in-Err.is
 
-pub returns-in-Full-clause-preview : goal.returns-in-Full-clause-preview
+pub returns-in-Err-clause-preview : goal.returns-in-Err-clause-preview
 unfolding applied marks_applied preview_applied
-returns-in-Full-clause-preview c = rw c.in-Full.is
-
-pub returns-in-Unknown-clause-value : goal.returns-in-Unknown-clause-value
-unfolding applied marks_applied preview_applied
-returns-in-Unknown-clause-value c = rw c.in-Unknown.is c.refuse-in-Unknown.ensures
-
-pub returns-in-Unknown-clause-marks : goal.returns-in-Unknown-clause-marks
-unfolding applied marks_applied preview_applied
-returns-in-Unknown-clause-marks c = rw c.in-Unknown.is
-
-pub returns-in-Unknown-clause-second : goal.returns-in-Unknown-clause-second
-unfolding applied marks_applied preview_applied
-returns-in-Unknown-clause-second c = rw c.in-Unknown.is
-
-pub returns-in-Unknown-clause-preview : goal.returns-in-Unknown-clause-preview
-unfolding applied marks_applied preview_applied
-returns-in-Unknown-clause-preview c = rw c.in-Unknown.is
-
-pub returns-in-Asks-clause-value : goal.returns-in-Asks-clause-value
-unfolding applied marks_applied preview_applied
-returns-in-Asks-clause-value c = rw c.in-Asks.is c.act.ensures.value
-
-pub returns-in-Asks-clause-marks : goal.returns-in-Asks-clause-marks
-unfolding applied marks_applied preview_applied
-returns-in-Asks-clause-marks c = rw c.in-Asks.is c.act.ensures.marks
-
-pub returns-in-Asks-clause-second : goal.returns-in-Asks-clause-second
-unfolding applied marks_applied preview_applied
-returns-in-Asks-clause-second c = rw c.in-Asks.is c.act.ensures.second
-
-pub returns-in-Asks-clause-preview : goal.returns-in-Asks-clause-preview
-unfolding applied marks_applied preview_applied
-returns-in-Asks-clause-preview c = rw c.in-Asks.is c.act.ensures.preview
+returns-in-Err-clause-preview c = rw c.in-Err.is

@@ -1,0 +1,26 @@
+-- What a closure makes of a number that was found.
+use Prim.Native.Nat.{ℕ}
+use mathlib.Core.Path.{◌≡◌, ap, ◌∙◌}
+use Rattle.std.specs.Prelude.{Result, Ok, Err}
+use Rattle.std.specs.Result.{MatchResult, IsOkAnd}
+use Rattle.sorts.specs.declared.GrantNo.{GrantNo}
+use Rattle.sorts.specs.declared.Refusal.{Refusal}
+use Rattle.rows.specs.declared.Table.{Table}
+use Rattle.rows.specs.declared.Numbering.{Numbering}
+use Rattle.ranges.proofs.Answers.{was_got}
+use Rattle.grants.specs.Inner.OnePass.{Numbered, Matches}
+use Rattle.contents.specs.declared.Request.{Request}
+use Rattle.contents.specs.declared.Reading.{Reading}
+use Rattle.contents.specs.Inner.Numbered.{Makes, asked, known, revision_of}
+
+module _ (answers : GrantNo → Request → Type 0) (q : GrantNo → Request) (makes : Makes answers q) where
+  pub asked_is : (a : Result GrantNo Refusal) (r : Result Request Refusal) → MatchResult a (λ g. IsOkAnd r (answers g)) (λ k. r ≡ Err k) → r ≡ asked q a
+  asked_is (Ok g) (Ok x) h = ap Ok (makes g x h)
+  asked_is (Ok g) (Err k) h = absurd h
+  asked_is (Err k) r h = h
+
+-- a grant that was read to be revised
+pub revised_is : (q : GrantNo → Request) (t : Table) (R : Numbered GrantNo) (r : Result (GrantNo × ℕ) Refusal) (u : Numbering) (g : GrantNo) (n : ℕ) (f : Result Request Refusal) →
+    Matches R r u → r ≡ Ok (g, n) → f ≡ asked q (known t.count u.full g) → ◌≡◌ {A = Result Reading Refusal} (Ok (record { table = t; found = f; used = n })) (revision_of q t R)
+revised_is q t R r u g n f m e h =
+    rw (was_got R.out m.value e) (ap (λ (x : Result Request Refusal). Ok (record { table = t; found = x; used = n })) (h ∙ ap (λ (w : Numbering). asked q (known t.count w.full g)) m.numbering))
