@@ -57,14 +57,10 @@ pub fn answer_for(c: Concl, marks: &[u8], second: &[u8]) -> Answer
     }
 }
 
-// qu: the answer for the conclusion, and the book with the record's grants numbered.
-pub fn query(b: Book, t: Table, c: Concl, marks: &[u8], second: &[u8], used: usize) -> Answered
+// qu: the book with the record's grants numbered, and the answer for the conclusion.
+pub fn query(b: Book, t: Table, c: Concl, marks: &[u8], second: &[u8]) -> (Book, Answer)
     requires { (number_of c < length marks.now) × (number_of c < length second.now) }
-    ensures { result ≡ queried b t c marks.now second.now used }
+    ensures { result ≡ queried b t c marks.now second.now }
 {
-    Answered {
-        book: Book { table: t, ..b },
-        answer: answer_for(c, marks, second),
-        used,
-    }
+    (Book { table: t, ..b }, answer_for(c, marks, second))
 }

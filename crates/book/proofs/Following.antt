@@ -48,7 +48,7 @@ use Rattle.book.specs.Calls.{answer_of, marks_after, second_after, preview_after
 use Rattle.renewing.specs.Inner.Buffers.{firm_marks, both_marks}
 use Rattle.answer.specs.Inner.Answering.{refused_with}
 use Rattle.revising.specs.Inner.Revising.{changed_to, previewed_by, entered_book, removed_book}
-use Rattle.requests.specs.Inner.Apply.{applied_to, marks_applied_to, preview_applied_to, applied, marks_applied, preview_applied, FoundFits, Ready}
+use Rattle.requests.specs.Inner.Apply.{answered, applied_to, marks_applied_to, preview_applied_to, done, applied, marks_applied, preview_applied, FoundFits, Ready}
 use Rattle.book.proofs.Showing.{shown_more, shown_book}
 use Rattle.book.proofs.Forms.{table_rows, number_has, found_fits, firm_status}
 
@@ -126,7 +126,7 @@ module _ (b : Book) (m k v s : List ℕ) (f : BookForm b m k) (vl : length v ≡
 
       -- flags that changed, and what stands then
       change_steps : (G : List ℕ) (D : List Entry) → Shown N' G D → FlagsFit t.count G → Apart D → (n : ℕ) →
-          Follows M (change D N' n) b m k v (changed_to (record { table = t; flags = G }) m n) (firm_marks (record { table = t; flags = G })) (both_marks (record { table = t; flags = G })) v
+          Follows M (change D N' n) b m k v (answered b n (Ok (changed_to (record { table = t; flags = G }) m))) (firm_marks (record { table = t; flags = G })) (both_marks (record { table = t; flags = G })) v
       unfolding answer_of marks_after second_after preview_after
       change_steps G D S T a n = record {
         answer = refl;
@@ -153,12 +153,12 @@ module _ (b : Book) (m k v s : List ℕ) (f : BookForm b m k) (vl : length v ≡
         in_table : place g N' < t.count
         in_table = omega (arith, len', has_lt g N' there')
 
-        entered_steps : (n : ℕ) → Follows M (change (entered by g E) N' n) b m k v (changed_to (entered_book b t by (place g N')) m n) (firm_marks (entered_book b t by (place g N'))) (both_marks (entered_book b t by (place g N'))) v
+        entered_steps : (n : ℕ) → Follows M (change (entered by g E) N' n) b m k v (answered b n (Ok (changed_to (entered_book b t by (place g N')) m))) (firm_marks (entered_book b t by (place g N'))) (both_marks (entered_book b t by (place g N'))) v
         entered_steps n =
             change_steps (entered_flags by (place g N') b.flags) (entered by g E) (entered_shown N' small' distinct' g there' b.flags E before by known)
             (entered_fit t.count F.count (place g N') in_table b.flags by f.flags known fit) (entered_apart E apart g by) n
 
-        removed_steps : (n : ℕ) → Follows M (change (removed by g E) N' n) b m k v (changed_to (record { table = t; flags = removed_flags by (place g N') b.flags }) m n)
+        removed_steps : (n : ℕ) → Follows M (change (removed by g E) N' n) b m k v (answered b n (Ok (changed_to (record { table = t; flags = removed_flags by (place g N') b.flags }) m)))
             (firm_marks (record { table = t; flags = removed_flags by (place g N') b.flags })) (both_marks (record { table = t; flags = removed_flags by (place g N') b.flags })) v
         removed_steps n =
             change_steps (removed_flags by (place g N') b.flags) (removed by g E) (removed_shown N' small' distinct' g there' b.flags E before by known)
@@ -188,8 +188,8 @@ module _ (b : Book) (m k v s : List ℕ) (f : BookForm b m k) (vl : length v ≡
     not_true_false false h = refl
 
     -- a change where there is something to change, by what the flags say and by what stands
-    picked : (D : List Entry) (b' : Book) (n : ℕ) → Follows M (change D N n) b m k v (changed_to b' m n) (firm_marks b') (both_marks b') v → (c d : Bool) → c ≡ d →
-        Follows M (cond d (change D N n) (refuse M refusal.Absent n)) b m k v (cond c (changed_to b' m n) (refused_with b refusal.Absent n)) (cond c (firm_marks b') m) (cond c (both_marks b') k) v
+    picked : (D : List Entry) (b' : Book) (n : ℕ) → Follows M (change D N n) b m k v (answered b n (Ok (changed_to b' m))) (firm_marks b') (both_marks b') v → (c d : Bool) → c ≡ d →
+        Follows M (cond d (change D N n) (refuse M refusal.Absent n)) b m k v (answered b n (cond c (Ok (changed_to b' m)) (Err refusal.Absent))) (cond c (firm_marks b') m) (cond c (both_marks b') k) v
     picked D b' n S true true e = S
     picked D b' n S true false e = absurd (no_true (sym e))
     picked D b' n S false true e = absurd (no_true e)
@@ -225,7 +225,7 @@ module _ (b : Book) (m k v s : List ℕ) (f : BookForm b m k) (vl : length v ≡
       confirm_steps p known false h = left (change (entered (Issued p) g E) N n) n (stands M (Provisional p) g) (not_true_false (stands M (Provisional p) g) (absent g h (Provisional p)))
 
       -- to preview: what stands without the licence, by what the flags say and by what stands
-      seen : (p : Prin) (c d : Bool) → c ≡ d → Follows M (cond d (previewed M p g n) (refuse M refusal.Absent n)) b m k v (cond c (previewed_by b (removed_book b (Issued p) (place g N)) m n) (refused_with b refusal.Absent n)) m k (cond c (firm_marks (removed_book b (Issued p) (place g N))) v)
+      seen : (p : Prin) (c d : Bool) → c ≡ d → Follows M (cond d (previewed M p g n) (refuse M refusal.Absent n)) b m k v (answered b n (cond c (Ok (previewed_by b (removed_book b (Issued p) (place g N)) m)) (Err refusal.Absent))) m k (cond c (firm_marks (removed_book b (Issued p) (place g N))) v)
       unfolding answer_of marks_after second_after preview_after
       seen p true true e = record { answer = refl; used = refl; marks = refl; second = refl; preview = refl; shows = sh; form = f; kept = λ j e. absurd (shows_refused e); untouched = λ q h e. refl }
       seen p true false e = absurd (no_true (sym e))
@@ -304,7 +304,7 @@ module _ (b : Book) (m k v s : List ℕ) (f : BookForm b m k) (vl : length v ≡
         (sym (R.found f.table)) (outcome_steps (read_canonical s) refl))
 
     follows_at : Follows M (step M s) b m k v (applied b m k r) (marks_applied firm_marks b m r) (marks_applied both_marks b k r) (preview_applied b v r)
-    unfolding step applied marks_applied preview_applied
+    unfolding step done applied marks_applied preview_applied
     follows_at = all_steps
 
   pub follows : (M : State) → Shows b M → Follows M (step M s) b m k v (applied b m k r) (marks_applied firm_marks b m r) (marks_applied both_marks b k r) (preview_applied b v r)

@@ -38,7 +38,7 @@ use Rattle.book.specs.Calls.{Called}
 use Rattle.renewing.specs.Inner.Buffers.{firm_marks}
 use Rattle.answer.specs.Inner.Answering.{refused_with}
 use Rattle.revising.specs.Inner.Revising.{changed_to, previewed_by, removed_book}
-use Rattle.requests.specs.Inner.Apply.{applied_to, marks_applied_to, preview_applied_to, applied, marks_applied, preview_applied}
+use Rattle.requests.specs.Inner.Apply.{answered, applied_to, marks_applied_to, preview_applied_to, done, applied, marks_applied, preview_applied}
 use Rattle.marks.specs.Counts.{Statements, change_in}
 use Rattle.machine.specs.Machine.{State}
 use Rattle.book.specs.Chains.{Call}
@@ -63,7 +63,7 @@ same_refused j b n w m = record {
   used = refl;
 }
 
-shown_removed : (b : Book) (m : List ℕ) (b' : Book) (n : ℕ) → Foretold (previewed_by b b' m n) (changed_to b' m n) (firm_marks b') (firm_marks b')
+shown_removed : (b : Book) (m : List ℕ) (b' : Book) (n : ℕ) → Foretold (answered b n (Ok (previewed_by b b' m))) (answered b n (Ok (changed_to b' m))) (firm_marks b') (firm_marks b')
 shown_removed b m b' n = record {
   refusals = λ j. (λ e. let z : ◌≡◌ {A = ℕ} 0 1 = cc in absurd (omega arith), λ e. let z : ◌≡◌ {A = ℕ} 0 1 = cc in absurd (omega arith));
   counts = λ x. (λ e. let d = inner_counts e in ap Changed d, λ e. let d = inner_changed e in ap Previewed d);
@@ -82,7 +82,7 @@ module _ (b : Book) (m k v : List ℕ) (t t' : Table) (n : ℕ) where
   found_same f g (turned_back j) = same_refused j b n v m
   found_same f g (licensed p num) = go (there_flags (Issued p) num.0 b.flags)
     where
-      go : (c : Bool) → Foretold (cond c (previewed_by b (removed_book b (Issued p) num.0) m n) (refused_with b refusal.Absent n)) (cond c (changed_to (removed_book b (Issued p) num.0) m n) (refused_with b refusal.Absent n))
+      go : (c : Bool) → Foretold (answered b n (cond c (Ok (previewed_by b (removed_book b (Issued p) num.0) m)) (Err refusal.Absent))) (answered b n (cond c (Ok (changed_to (removed_book b (Issued p) num.0) m)) (Err refusal.Absent)))
           (cond c (firm_marks (removed_book b (Issued p) num.0)) v) (cond c (firm_marks (removed_book b (Issued p) num.0)) m)
       go true = shown_removed b m (removed_book b (Issued p) num.0) n
       go false = same_refused refusal.Absent b n v m
@@ -99,7 +99,7 @@ reads_same N o (fault j) = turned_back j
 -- THE PREVIEW IS WHAT THE WITHDRAWAL LEAVES, whatever book, buffers and content.
 module _ (b : Book) (m k v c : List ℕ) (r q : Answered) (n l w n' l' w' : List ℕ) (C : Called b m k v (preview_of c) r n l w) (D : Called b m k v (withdrawal_of c) q n' l' w') where
   formed : Lent b m k v → Foretold r q w n'
-  unfolding applied marks_applied preview_applied
+  unfolding done applied marks_applied preview_applied
   formed f =
       let s = preview_of c in
       let t = withdrawal_of c in

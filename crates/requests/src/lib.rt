@@ -1,41 +1,41 @@
 // What was read of a record, done.
 #![tactic(auto)]
 
-ghost use Rattle.std.specs.Prelude.{◌≡◌, Ok};
+ghost use Rattle.std.specs.Prelude.{◌≡◌};
 ghost use Rattle.renewing.specs.Inner.Buffers.{firm_marks, both_marks};
-ghost use Rattle.requests.specs.Inner.Apply.{Ready, applied, marks_applied, preview_applied};
+ghost use Rattle.requests.specs.Inner.Apply.{Ready, done, applied, marks_applied, preview_applied};
 
-use answer::{Answered, refuse};
+use answer::{Answer, Answered, refuse};
 use bookform::Book;
 use contents::{Reading, Request};
-use rows::Table;
+use sorts::Refusal;
 
-// What a record asks, done.
+// What a record asks, done: the book after it and the answer, or why it is refused.
+#[tactic(auto, unfolding(crate::specs::Inner::Apply::done, crate::specs::Inner::Apply::marks_applied, crate::specs::Inner::Apply::preview_applied))]
 fn act(
     b: Book,
-    t: Table,
-    q: Request,
-    n: usize,
+    r: Reading,
     marks: &mut [u8],
     second: &mut [u8],
     preview: &mut [u8],
-) -> Answered
-    requires { Ready b marks.old second.old preview.old (record { table = t; found = Ok q; used = n }) }
-    ensures value { result ≡ applied b marks.old second.old (record { table = t; found = Ok q; used = n }) }
-    ensures marks { marks.new ≡ marks_applied firm_marks b marks.old (record { table = t; found = Ok q; used = n }) }
-    ensures second { second.new ≡ marks_applied both_marks b second.old (record { table = t; found = Ok q; used = n }) }
-    ensures preview { preview.new ≡ preview_applied b preview.old (record { table = t; found = Ok q; used = n }) }
+) -> Result<(Book, Answer), Refusal>
+    requires { Ready b marks.old second.old preview.old r }
+    ensures value { result ≡ done b marks.old second.old r }
+    ensures marks { marks.new ≡ marks_applied firm_marks b marks.old r }
+    ensures second { second.new ≡ marks_applied both_marks b second.old r }
+    ensures preview { preview.new ≡ preview_applied b preview.old r }
 {
-    match q {
-        Request::Enter(by, no) => revising::enter(b, t, by, no, marks, second, n),
-        Request::Remove(by, no) => revising::remove(b, by, no, marks, second, n),
-        Request::Confirm(p, no) => revising::confirm(b, p, no, marks, second, n),
-        Request::Preview(p, no) => revising::show_removed(b, p, no, marks, preview, n),
-        Request::Query(c) => answer::query(b, t, c, marks, second, n),
+    match r.found? {
+        Request::Enter(by, no) => Ok(revising::enter(b, r.table, by, no, marks, second)),
+        Request::Remove(by, no) => revising::remove(b, by, no, marks, second),
+        Request::Confirm(p, no) => revising::confirm(b, p, no, marks, second),
+        Request::Preview(p, no) => revising::show_removed(b, p, no, marks, preview),
+        Request::Query(c) => Ok(answer::query(b, r.table, c, marks, second)),
     }
 }
 
-// What was read of a record, done.
+// The answer to a record that was read, with the bytes used; a refusal leaves the book.
+#[tactic(auto, unfolding(crate::specs::Inner::Apply::applied))]
 pub fn apply(
     b: Book,
     r: Reading,
@@ -49,8 +49,12 @@ pub fn apply(
     ensures second { second.new ≡ marks_applied both_marks b second.old r }
     ensures preview { preview.new ≡ preview_applied b preview.old r }
 {
-    match r.found {
-        Ok(q) => act(b, r.table, q, r.used, marks, second, preview),
+    match act(b, r, marks, second, preview) {
+        Ok((book, answer)) => Answered {
+            book,
+            answer,
+            used: r.used,
+        },
         Err(k) => refuse(b, k, r.used),
     }
 }

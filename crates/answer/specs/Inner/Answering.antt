@@ -5,6 +5,7 @@ use Rattle.sorts.specs.declared.Concl.{Concl}
 use Rattle.sorts.specs.Numbers.{number_of}
 use Rattle.rows.specs.declared.Table.{Table}
 use Rattle.bookform.specs.declared.Book.{Book}
+use Rattle.answer.specs.declared.Answer.{Answer}
 use Rattle.answer.specs.declared.Answer.TheVariants.{Refused}
 use Rattle.answer.specs.declared.Answered.{Answered}
 use Rattle.answer.specs.Answers.{answer_at}
@@ -12,5 +13,5 @@ use Rattle.answer.specs.Answers.{answer_at}
 abbrev pub refused_with : Book → Refusal → ℕ → Answered
 refused_with b k n = record { book = b; answer = Refused k; used = n }
 
-abbrev pub queried : Book → Table → Concl → List ℕ → List ℕ → ℕ → Answered
-queried b t c m k n = record { book = record { table = t; flags = b.flags }; answer = answer_at m k (number_of c); used = n }
+abbrev pub queried : Book → Table → Concl → List ℕ → List ℕ → Book × Answer
+queried b t c m k = (record { table = t; flags = b.flags }, answer_at m k (number_of c))

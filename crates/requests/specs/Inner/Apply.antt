@@ -12,17 +12,27 @@ use Rattle.rules.specs.Rules.{RowsForm}
 use Rattle.flags.specs.Changes.{is_set, there_flags}
 use Rattle.bookform.specs.declared.Book.{Book}
 use Rattle.renewing.specs.Inner.Buffers.{firm_marks}
+use Rattle.answer.specs.declared.Answer.{Answer}
 use Rattle.answer.specs.declared.Answered.{Answered}
 use Rattle.answer.specs.Inner.Answering.{refused_with, queried}
 use Rattle.revising.specs.Inner.Revising.{changed_to, entered_book, removed_book, removed, confirmed, previewed}
 
+-- the book after it and the answer, or the refusal
+abbrev pub done_to : Book → List ℕ → List ℕ → Table → Result Request Refusal → Result (Book × Answer) Refusal
+done_to b m k t (Err j) = Err j
+done_to b m k t (Ok (Enter by g)) = Ok (changed_to (entered_book b t by g.0) m)
+done_to b m k t (Ok (Remove by g)) = removed b by g.0 m
+done_to b m k t (Ok (Confirm p g)) = confirmed b p g.0 m
+done_to b m k t (Ok (Preview p g)) = previewed b p g.0 m
+done_to b m k t (Ok (Query c)) = Ok (queried b t c m k)
+
+-- with the bytes used; a refusal leaves the book
+abbrev pub answered : Book → ℕ → Result (Book × Answer) Refusal → Answered
+answered b n (Ok d) = record { book = d.0; answer = d.1; used = n }
+answered b n (Err j) = refused_with b j n
+
 abbrev pub applied_to : Book → List ℕ → List ℕ → Table → ℕ → Result Request Refusal → Answered
-applied_to b m k t n (Err j) = refused_with b j n
-applied_to b m k t n (Ok (Enter by g)) = changed_to (entered_book b t by g.0) m n
-applied_to b m k t n (Ok (Remove by g)) = removed b by g.0 m n
-applied_to b m k t n (Ok (Confirm p g)) = confirmed b p g.0 m n
-applied_to b m k t n (Ok (Preview p g)) = previewed b p g.0 m n
-applied_to b m k t n (Ok (Query c)) = queried b t c m k n
+applied_to b m k t n f = answered b n (done_to b m k t f)
 
 -- marks after it, by what marks a book has and which stood: the same for both buffers
 abbrev pub marks_applied_to : (Book → List ℕ) → Book → List ℕ → Table → Result Request Refusal → List ℕ
@@ -51,8 +61,11 @@ FoundFits (Ok (Confirm p g)) = StatusRange (Issued p) × (g.0 < grants)
 FoundFits (Ok (Preview p g)) = StatusRange (Issued p) × (g.0 < grants)
 FoundFits (Ok (Query c)) = number_of c < all_marks
 
+unfoldable pub done : Book → List ℕ → List ℕ → Reading → Result (Book × Answer) Refusal
+done b m k r = done_to b m k r.table r.found
+
 unfoldable pub applied : Book → List ℕ → List ℕ → Reading → Answered
-applied b m k r = applied_to b m k r.table r.used r.found
+applied b m k r = answered b r.used (done b m k r)
 
 unfoldable pub marks_applied : (Book → List ℕ) → Book → List ℕ → Reading → List ℕ
 marks_applied f b m r = marks_applied_to f b m r.table r.found
