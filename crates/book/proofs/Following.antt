@@ -74,7 +74,7 @@ module _ (b : Book) (m k v s : List ℕ) (f : BookForm b m k) (vl : length v ≡
     marks = f.marks.count;
     second = f.second.count;
     preview = vl;
-    fits = subst FoundFits (sym (R.found f.table)) (found_fits N small s);
+    fits = subst FoundFits (sym (R.found f.table)) (found_fits N s);
   }
 
   module _ (E : List Entry) (sh : Shows b (record { entries = E; N = N })) where

@@ -11,10 +11,10 @@ use lib.ListN.{length, get_or, replicate, length-replicate, get_or-replicate, ge
 use lib.Seq.{get_or-append_seam}
 use borrow.Author.Tests.{leb-true}
 use Rattle.sorts.specs.declared.Cond.{Cond}
+use Rattle.sorts.specs.declared.Refusal.{Refusal}
 use Rattle.sorts.specs.declared.Refusal.TheVariants as refusal
 use Rattle.sorts.specs.declared.Status.{Status}
 use Rattle.sorts.specs.Flags.{StatusRange, FirmRange}
-use Rattle.sorts.specs.declared.Prin.{Prin}
 use Rattle.sorts.specs.declared.Status.TheVariants.{Trusted, Issued, Provisional}
 use Rattle.sorts.specs.Blank.{blank_cond, blank_row, no_row}
 use Rattle.sorts.specs.Numbers.{ClosedConcl, conditions, grants, principals, packs}
@@ -31,6 +31,7 @@ use Rattle.ranges.specs.Bytes.{Outcome, got, refused}
 use Rattle.contents.specs.Records.{Record, enter, remove, confirm, preview, query}
 use Rattle.reader.specs.Records.{read_canonical}
 use Rattle.contents.specs.Requests.{fits, found_of}
+use Rattle.contents.specs.declared.Request.{Request}
 use Rattle.contents.specs.declared.Request.TheVariants.{Enter, Remove, Confirm, Preview, Query}
 use Rattle.exact.specs.Writing.{AllowedRecord}
 use Rattle.exact.proofs.CanonicalRecords.{canonical_exact}
@@ -61,7 +62,7 @@ table_rows t f g l = go (dec_lt g t.count)
     go (yes h) = f.used g h
     go (no h) = subst (RowForm g) (sym (f.unused g (omega arith) l)) (blank_row_lem g)
 
--- the numbers of what was found are in range
+-- a conclusion that is asked for has marks
 
 -- a grant that was numbered has a number
 add_has : (g : Grant) (N : List Grant) → has g (add g N) ≡ true
@@ -107,30 +108,11 @@ concl_closed (perm p issue_any) N a e = let q = a.1 in absurd (omega arith)
 concl_closed (perm p (run n)) N a e = (prin_closed p a.0, pack_closed n a.1)
 concl_closed (perm p (export n)) N a e = (prin_closed p a.0, pack_closed n a.1)
 
-module _ (N : List Grant) (small : length N ≤ grants) where
-  entering_fits : (by : Status) → StatusRange by → (g : Grant) (b : Bool) → fits (number g N) ≡ b →
-      FoundFits (cond b (Ok (Enter by (record { 0 = place g (number g N) }))) (Err refusal.Full))
-  entering_fits by k g true e = (k, let l = has_lt g (number g N) (number_has g N) in let s = fits_small (number g N) e in omega arith)
-  entering_fits by k g false e = tt
-
-  -- the number of a grant that has one
-  numbered_fits : (g : Grant) → has g N ≡ true → place g N < grants
-  numbered_fits g e = let l = has_lt g N e in omega arith
-
-  removing_fits : (by : Status) → StatusRange by → (g : Grant) (b : Bool) → has g N ≡ b →
-      FoundFits (cond b (Ok (Remove by (record { 0 = place g N }))) (Err refusal.Absent))
-  removing_fits by k g true e = (k, numbered_fits g e)
-  removing_fits by k g false e = tt
-
-  confirming_fits : (p : Prin) → StatusRange (Issued p) → (g : Grant) (b : Bool) → has g N ≡ b →
-      FoundFits (cond b (Ok (Confirm p (record { 0 = place g N }))) (Err refusal.Absent))
-  confirming_fits p k g true e = (k, numbered_fits g e)
-  confirming_fits p k g false e = tt
-
-  previewing_fits : (p : Prin) → StatusRange (Issued p) → (g : Grant) (b : Bool) → has g N ≡ b →
-      FoundFits (cond b (Ok (Preview p (record { 0 = place g N }))) (Err refusal.Absent))
-  previewing_fits p k g true e = (k, numbered_fits g e)
-  previewing_fits p k g false e = tt
+module _ (N : List Grant) where
+  -- a request, or its refusal
+  either_fits : (q : Request) (k : Refusal) → FoundFits (Ok q) → (b : Bool) → FoundFits (cond b (Ok q) (Err k))
+  either_fits q k h true = h
+  either_fits q k h false = tt
 
   query_fits : (c : Concl) → AllowedConcl 0 0 c → (b : Bool) → fits (number_concl c N) ≡ b →
       FoundFits (cond b (Ok (Query (concl_of (number_concl c N) c))) (Err refusal.Full))
@@ -139,10 +121,10 @@ module _ (N : List Grant) (small : length N ≤ grants) where
 
   record_fits : (q : Record) (n : ℕ) → AllowedRecord q → FoundFits (found_of N (got q n))
   unfolding found_of AllowedRecord
-  record_fits (enter by g) n a = entering_fits by a.0 g (fits (number g N)) refl
-  record_fits (remove by g) n a = removing_fits by (firm_status by a.0) g (has g N) refl
-  record_fits (confirm p g) n a = confirming_fits p a.0 g (has g N) refl
-  record_fits (preview p g) n a = previewing_fits p a.0 g (has g N) refl
+  record_fits (enter by g) n a = either_fits (Enter by (record { 0 = place g (number g N) })) refusal.Full tt (fits (number g N))
+  record_fits (remove by g) n a = either_fits (Remove by (record { 0 = place g N })) refusal.Absent tt (has g N)
+  record_fits (confirm p g) n a = either_fits (Confirm p (record { 0 = place g N })) refusal.Absent tt (has g N)
+  record_fits (preview p g) n a = either_fits (Preview p (record { 0 = place g N })) refusal.Absent tt (has g N)
   record_fits (query c) n a = query_fits c a.0 (fits (number_concl c N)) refl
 
   pub found_fits : (s : List ℕ) → FoundFits (found_of N (read_canonical s))

@@ -19,7 +19,7 @@ use Rattle.rows.specs.Written.{Grant}
 use Rattle.rows.specs.Numbering.{place, has}
 use Rattle.rows.specs.Form.{rows_out}
 use Rattle.ranges.specs.Bytes.{Outcome}
-use Rattle.contents.specs.Records.{Record, preview}
+use Rattle.contents.specs.Records.{Record}
 use Rattle.reader.specs.Records.{read_canonical}
 use Rattle.contents.specs.Requests.{found_of}
 use Rattle.reader.specs.Inner.OneRecord.{num_record}

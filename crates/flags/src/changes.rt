@@ -2,35 +2,32 @@
 ghost use Rattle.std.specs.Prelude.{◌≡◌, ◌≤◌, ◌<◌};
 ghost use Rattle.sorts.specs.Decides.{Decides};
 ghost use Rattle.sorts.specs.Numbers.{speakers, grants};
-ghost use Rattle.sorts.specs.Flags.{StatusRange};
 ghost use Rattle.flags.specs.Changes.{is_set, put, entered_flags, there_flags, removed_flags, Unflagged, FlagsApart};
 ghost use Rattle.flags.specs.Inner.Rows.{Clash, ApartAt};
 
 use sorts::{GrantNo, Prin, Status};
 
-// Whether the grant stands so.
+// Whether the grant stands so: what has no flag does not.
 pub fn is_set(flags: [u8; Status::ALL], by: Status, g: GrantNo) -> bool
-    requires { StatusRange by × (g.0 < grants) }
     ensures { result ≡ is_set flags by g.0 }
 {
-    let i = by.flag_place(g);
-    flags[i] == 1
+    flags.get(by.flag_place(g)) == Some(&1)
 }
 
-// The flags with that of the grant set to v.
+// The flags with that of the grant, where it has one, set to v.
 fn put(flags: [u8; Status::ALL], by: Status, g: GrantNo, v: u8) -> [u8; Status::ALL]
-    requires { StatusRange by × (g.0 < grants) }
     ensures { result ≡ put flags by g.0 v }
 {
     let mut f = flags;
     let i = by.flag_place(g);
-    f[i] = v;
+    if i < Status::ALL {
+        f[i] = v;
+    }
     f
 }
 
 // The flags with the grant entered.
 pub fn entered(flags: [u8; Status::ALL], by: Status, g: GrantNo) -> [u8; Status::ALL]
-    requires { StatusRange by × (g.0 < grants) }
     ensures { result ≡ entered_flags by g.0 flags }
 {
     match by {
@@ -51,7 +48,6 @@ pub fn entered(flags: [u8; Status::ALL], by: Status, g: GrantNo) -> [u8; Status:
 
 // Whether there is something to remove.
 pub fn there(flags: [u8; Status::ALL], by: Status, g: GrantNo) -> bool
-    requires { StatusRange by × (g.0 < grants) }
     ensures { result ≡ there_flags by g.0 flags }
 {
     match by {
@@ -65,7 +61,6 @@ pub fn there(flags: [u8; Status::ALL], by: Status, g: GrantNo) -> bool
 
 // The flags with it removed.
 pub fn removed(flags: [u8; Status::ALL], by: Status, g: GrantNo) -> [u8; Status::ALL]
-    requires { StatusRange by × (g.0 < grants) }
     ensures { result ≡ removed_flags by g.0 flags }
 {
     match by {

@@ -1,6 +1,6 @@
 -- What was read in a content, as that of its record.
-use Prim.Native.Nat.{ℕ, ◌+◌}
-use mathlib.Core.Path.{◌≡◌, sym, ap, ◌∙◌}
+use Prim.Native.Nat.{ℕ}
+use mathlib.Core.Path.{◌≡◌, sym, ap}
 use mathlib.Core.List.{List}
 use lib.ListN.{length}
 use Rattle.rows.specs.declared.Table.{Table}

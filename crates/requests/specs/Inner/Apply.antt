@@ -1,8 +1,7 @@
 -- What is done with a record that was read, as the code does it.
 use Rattle.std.specs.Prelude.{ℕ, ◌<◌, ◌≡◌, cond, List, length, Result, Ok, Err}
 use Rattle.sorts.specs.declared.Status.TheVariants.{Issued, Provisional}
-use Rattle.sorts.specs.Numbers.{number_of, all_marks, grants}
-use Rattle.sorts.specs.Flags.{StatusRange}
+use Rattle.sorts.specs.Numbers.{number_of, all_marks}
 use Rattle.sorts.specs.declared.Refusal.{Refusal}
 use Rattle.rows.specs.declared.Table.{Table}
 use Rattle.contents.specs.declared.Request.{Request}
@@ -52,14 +51,10 @@ preview_applied_to b v (Ok (Confirm p g)) = v
 preview_applied_to b v (Ok (Preview p g)) = cond (there_flags (Issued p) g.0 b.flags) (firm_marks (removed_book b (Issued p) g.0)) v
 preview_applied_to b v (Ok (Query c)) = v
 
--- the numbers of what was found are in range
+-- a conclusion that is asked for has marks
 abbrev pub FoundFits : Result Request Refusal → Type 0
-FoundFits (Err k) = Unit {0}
-FoundFits (Ok (Enter by g)) = StatusRange by × (g.0 < grants)
-FoundFits (Ok (Remove by g)) = StatusRange by × (g.0 < grants)
-FoundFits (Ok (Confirm p g)) = StatusRange (Issued p) × (g.0 < grants)
-FoundFits (Ok (Preview p g)) = StatusRange (Issued p) × (g.0 < grants)
 FoundFits (Ok (Query c)) = number_of c < all_marks
+FoundFits f = Unit {0}
 
 unfoldable pub done : Book → List ℕ → List ℕ → Reading → Result (Book × Answer) Refusal
 done b m k r = done_to b m k r.table r.found
