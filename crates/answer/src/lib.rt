@@ -42,6 +42,7 @@ pub fn refuse(b: Book, k: Refusal, used: usize) -> Answered
 }
 
 // The answer for a closed conclusion, from its marks: the second is read only where the first is 0.
+// Three of the answers to a call: an enum of the three would be turned into an `Answer` at once.
 pub fn answer_for(c: Concl, marks: &[u8], second: &[u8]) -> Answer
     requires { (number_of c < length marks.now) × (number_of c < length second.now) }
     ensures { result ≡ answer_at marks.now second.now (number_of c) }
