@@ -33,14 +33,14 @@ pub struct Segments {
     pub lens: [usize; Row::CONDITIONS],
 }
 
-// Three bytes copied.
-fn copy_three(s: &[u8], at: usize, out: &mut [u8], to: usize)
-    requires { (at + 3 ≤ 65536) × (to + 3 ≤ length out.old) }
-    ensures { out.new ≡ copy_three s.now at out.old to }
+// Three bytes copied, one by one: a byte past the end of s is 0.
+fn copy_three(s: &[u8], p: Place, out: &mut [u8])
+    requires { (p.at + 3 ≤ 65536) × (p.to + 3 ≤ length out.old) }
+    ensures { out.new ≡ copy_three s.now p.at out.old p.to }
 {
-    segments::put(out, to, segments::byte_at(s, at));
-    segments::put(out, to + 1, segments::byte_at(s, at + 1));
-    segments::put(out, to + 2, segments::byte_at(s, at + 2));
+    segments::put(out, p.to, segments::byte_at(s, p.at));
+    segments::put(out, p.to + 1, segments::byte_at(s, p.at + 1));
+    segments::put(out, p.to + 2, segments::byte_at(s, p.at + 2));
 }
 
 // The segment written behind those from b on is left out, or turned into its place.
@@ -49,7 +49,7 @@ fn put_in(b: usize, was: Segments, one: Place, out: &mut [u8]) -> Segments
     ensures done { kept_of out.new result ≡ put_in b was.to (take was.count was.lens) (spot_of out.old one) }
     ensures fits { SegmentsFit b result × (result.count ≤ was.count + 1) × (was.to ≤ result.to) × (result.to ≤ one.to) × (result.at ≡ one.at) }
 {
-    match segments::seek(out, b, was.count, was.lens, was.to, one.to) {
+    match segments::seek(out, b, &was.lens[..was.count], was.to, one.to) {
         None => Segments { at: one.at, ..was },
         Some((k, p)) => {
             segments::turn(out, p, was.to, one.to);
@@ -65,21 +65,22 @@ fn put_in(b: usize, was: Segments, one: Place, out: &mut [u8]) -> Segments
 
 // The form of the conclusion at a place. Its bytes are copied, whatever they are: no kind is read here.
 #[cycle(put_concl_put_conds_put_grant)]
-fn put_concl(s: &[u8], at: usize, below: u8, out: &mut [u8], to: usize) -> Place
-    requires { (at + 3 + most below ≤ 65536) × (to + 3 + most below ≤ length out.old) }
-    ensures done { spot_of out.new result ≡ put_concl (put_grant below s.now) s.now at out.old to }
-    ensures fits { (to ≤ result.to) × (result.to ≤ to + 3 + most below) × (result.at ≤ at + 3 + most below) }
+fn put_concl(s: &[u8], p: Place, below: u8, out: &mut [u8]) -> Place
+    requires { (p.at + 3 + most below ≤ 65536) × (p.to + 3 + most below ≤ length out.old) }
+    ensures done { spot_of out.new result ≡ put_concl (put_grant below s.now) s.now p.at out.old p.to }
+    ensures fits { (p.to ≤ result.to) × (result.to ≤ p.to + 3 + most below) × (result.at ≤ p.at + 3 + most below) }
 {
-    copy_three(s, at, out, to);
-    let kind = segments::byte_at(s, at);
-    let form = segments::byte_at(s, at + 2);
+    copy_three(s, p, out);
+    let kind = segments::byte_at(s, p.at);
+    let form = segments::byte_at(s, p.at + 2);
+    let next = Place {
+        at: p.at + 3,
+        to: p.to + 3,
+    };
     if kind == 1 && form == 0 {
-        return put_grant(s, at + 3, below, out, to + 3);
+        return put_grant(s, next, below, out);
     }
-    Place {
-        at: at + 3,
-        to: to + 3,
-    }
+    next
 }
 
 // `k` more conditions, put among the segments from b on.
@@ -93,7 +94,11 @@ fn put_conds(s: &[u8], below: u8, b: usize, k: u8, was: Segments, out: &mut [u8]
     let mut kept = was;
     for i in 0..k {
         segments::put(out, kept.to, segments::byte_at(s, kept.at));
-        let one = put_concl(s, kept.at + 1, below, out, kept.to + 1);
+        let next = Place {
+            at: kept.at + 1,
+            to: kept.to + 1,
+        };
+        let one = put_concl(s, next, below, out);
         kept = put_in(b, kept, one, out);
     }
     kept
@@ -102,26 +107,30 @@ fn put_conds(s: &[u8], below: u8, b: usize, k: u8, was: Segments, out: &mut [u8]
 // The form of the grant at a place; `left` grants may stand one inside the other, this one counted.
 #[cycle(put_concl_put_conds_put_grant)]
 #[tactic(auto, using(crate::proofs::Steps::most_step, crate::proofs::Steps::room_most))]
-fn put_grant(s: &[u8], at: usize, left: u8, out: &mut [u8], to: usize) -> Place
-    requires { (at + most left ≤ 65536) × (to + most left ≤ length out.old) }
-    ensures done { spot_of out.new result ≡ put_grant left s.now at out.old to }
-    ensures fits { (to ≤ result.to) × (result.to ≤ to + most left) × (result.at ≤ at + most left) }
+fn put_grant(s: &[u8], p: Place, left: u8, out: &mut [u8]) -> Place
+    requires { (p.at + most left ≤ 65536) × (p.to + most left ≤ length out.old) }
+    ensures done { spot_of out.new result ≡ put_grant left s.now p.at out.old p.to }
+    ensures fits { (p.to ≤ result.to) × (result.to ≤ p.to + most left) × (result.at ≤ p.at + most left) }
 {
     if left == 0 {
-        return Place { at, to };
+        return p;
     }
     let below = left - 1;
-    copy_three(s, at, out, to);
-    let k = segments::byte_at(s, at + 2).min(Row::CONDITIONS as u8);
+    copy_three(s, p, out);
+    let k = segments::byte_at(s, p.at + 2).min(Row::CONDITIONS as u8);
     let none = Segments {
-        at: at + 3,
-        to: to + 3,
+        at: p.at + 3,
+        to: p.to + 3,
         count: 0,
         lens: [0; Row::CONDITIONS],
     };
-    let cs = put_conds(s, below, to + 3, k, none, out);
-    segments::put(out, to + 2, cs.count as u8);
-    put_concl(s, cs.at, below, out, cs.to)
+    let cs = put_conds(s, below, p.to + 3, k, none, out);
+    segments::put(out, p.to + 2, cs.count as u8);
+    let head = Place {
+        at: cs.at,
+        to: cs.to,
+    };
+    put_concl(s, head, below, out)
 }
 
 // The form of the grant that the bytes open with, written into a buffer that has room for the longest one; none where it has not. A
@@ -132,7 +141,7 @@ pub fn write_grant(s: &[u8], out: &mut [u8]) -> Option<Place>
     if out.len() < MOST_GRANT {
         return None;
     }
-    Some(put_grant(s, 0, Row::DEPTHS, out, 0))
+    Some(put_grant(s, Place { at: 0, to: 0 }, Row::DEPTHS, out))
 }
 
 // The same of the conclusion that the bytes open with.
@@ -143,5 +152,5 @@ pub fn write_concl(s: &[u8], out: &mut [u8]) -> Option<Place>
     if out.len() < MOST_CONCL {
         return None;
     }
-    Some(put_concl(s, 0, Row::DEPTHS, out, 0))
+    Some(put_concl(s, Place { at: 0, to: 0 }, Row::DEPTHS, out))
 }

@@ -12,10 +12,10 @@ use std::cmp::Ordering;
 pub fn byte_at(s: &[u8], at: usize) -> u8
     ensures { result ≡ get_or s.now at 0 }
 {
-    if at < s.len() { s[at] } else { 0 }
+    s.get(at).copied().unwrap_or(0)
 }
 
-// A byte put at a place; past the end nothing is put.
+// A byte put at a place; past the end nothing is put. By the place, since a proof knows no element of what `get_mut` lends.
 pub fn put(out: &mut [u8], to: usize, b: u8)
     ensures { out.new ≡ set out.old to b }
 {
@@ -32,28 +32,21 @@ pub fn turn(out: &mut [u8], a: usize, b: usize, e: usize)
     out[a..e].rotate_left(b - a);
 }
 
-// Where the segment from `to` up to e stands among the first `count` segments, of which the first is at b: nowhere, since it is
+// Where the segment from `to` up to e stands among segments of such lengths, of which the first is at b: nowhere, since it is
 // there, or before the one of a number, at that one's place. Places in one buffer, since the segment is turned in it.
-pub fn seek(
-    out: &[u8],
-    b: usize,
-    count: usize,
-    lens: [usize; Row::CONDITIONS],
-    to: usize,
-    e: usize,
-) -> Option<(usize, usize)>
-    requires { (count ≤ conditions) × (b + sum lens ≤ to) × (to ≤ e) × (e ≤ length out.now) }
-    ensures { result ≡ seat (part to e out.now) out.now 0 b (take count lens) }
+pub fn seek(out: &[u8], b: usize, lens: &[usize], to: usize, e: usize) -> Option<(usize, usize)>
+    requires { (b + sum lens.now ≤ to) × (to ≤ e) × (e ≤ length out.now) }
+    ensures { result ≡ seat (part to e out.now) out.now 0 b lens.now }
 {
     let mut at = b;
-    for (k, &n) in lens[..count].iter().enumerate() {
+    for (k, &n) in lens.iter().enumerate() {
         match out[to..e].cmp(&out[at..at + n]) {
             Ordering::Less => return Some((k, at)),
             Ordering::Equal => return None,
             Ordering::Greater => at += n,
         }
     }
-    Some((count, at))
+    Some((lens.len(), at))
 }
 
 // A length put among lengths at place k; the last one falls off.

@@ -2,32 +2,29 @@ use Prim.Native.Nat.{ℕ}
 use Rattle.std.specs.Prelude.{Some}
 use mathlib.Core.Path.{◌≡◌, refl, ◌∙◌, sym, ap}
 use native.Mathlib.Omega.{arith}
-use lib.ListN.{take}
-use Rattle.std.proofs.lemmas.List.Sums.{sum_by-take-le}
+use lib.ListN.{length}
 use Rattle.segments.specs.Segments.{part}
-use lib.Seq.{length-take-le}
 use Rattle.segments.proofs.InParts.{parts_cmp}
 use Rattle.segments.proofs.Seats.{seat_below, seat_same, seat_above, seat_ended, sum_step}
 use Rattle.segments.proofs.seek.Goals as goal
 
 pub loop-k-init : goal.loop-k-init
-loop-k-init c = (omega (arith, c.requires, sum_by-take-le (λ x. x) c.args.lens c.args.count), refl)
+loop-k-init c = (omega (arith, c.requires), refl)
 
 pub returns-in-Less : goal.returns-in-Less
-returns-in-Less c = sym (c.loop-k.invariant.1 ∙ seat_below (part c.args.to c.args.e c.args.out.now) c.args.out.now c.loop-k.k c.loop-k.at (take c.args.count c.args.lens) c.loop-k-test.true (sym (c.cmp.ensures ∙ parts_cmp c.args.out.now c.args.to c.args.e c.loop-k.at _ c.requires.2) ∙ c.in-Less.is))
+returns-in-Less c = sym (c.loop-k.invariant.1 ∙ seat_below (part c.args.to c.args.e c.args.out.now) c.args.out.now c.loop-k.k c.loop-k.at c.args.lens.now c.loop-k-test.true (sym (c.cmp.ensures ∙ parts_cmp c.args.out.now c.args.to c.args.e c.loop-k.at _ c.requires.1) ∙ c.in-Less.is))
 
 pub returns-in-Equal : goal.returns-in-Equal
-returns-in-Equal c = sym (c.loop-k.invariant.1 ∙ seat_same (part c.args.to c.args.e c.args.out.now) c.args.out.now c.loop-k.k c.loop-k.at (take c.args.count c.args.lens) c.loop-k-test.true (sym (c.cmp.ensures ∙ parts_cmp c.args.out.now c.args.to c.args.e c.loop-k.at _ c.requires.2) ∙ c.in-Equal.is))
+returns-in-Equal c = sym (c.loop-k.invariant.1 ∙ seat_same (part c.args.to c.args.e c.args.out.now) c.args.out.now c.loop-k.k c.loop-k.at c.args.lens.now c.loop-k-test.true (sym (c.cmp.ensures ∙ parts_cmp c.args.out.now c.args.to c.args.e c.loop-k.at _ c.requires.1) ∙ c.in-Equal.is))
 
 pub loop-k-preserved : goal.loop-k-preserved
 loop-k-preserved c =
-    let ns = take c.args.count c.args.lens in
-    (omega (arith, c.loop-k.invariant.0, sum_step ns c.loop-k.k c.loop-k-test.true), c.loop-k.invariant.1 ∙ seat_above (part c.args.to c.args.e c.args.out.now) c.args.out.now c.loop-k.k c.loop-k.at ns c.loop-k-test.true (sym (c.cmp.ensures ∙ parts_cmp c.args.out.now c.args.to c.args.e c.loop-k.at _ c.requires.2) ∙ c.in-Greater.is))
+    let ns = c.args.lens.now in
+    (omega (arith, c.loop-k.invariant.0, sum_step ns c.loop-k.k c.loop-k-test.true), c.loop-k.invariant.1 ∙ seat_above (part c.args.to c.args.e c.args.out.now) c.args.out.now c.loop-k.k c.loop-k.at ns c.loop-k-test.true (sym (c.cmp.ensures ∙ parts_cmp c.args.out.now c.args.to c.args.e c.loop-k.at _ c.requires.1) ∙ c.in-Greater.is))
 
 pub returns : goal.returns
 returns c =
-    let ns = take c.args.count c.args.lens in
-    let long = length-take-le c.args.count c.args.lens (omega arith) in
-    let k : c.args.count ≡ c.loop-k.k = omega (arith, long) in
+    let ns = c.args.lens.now in
+    let k : length ns ≡ c.loop-k.k = omega arith in
     ap (λ (n : ℕ). Some (n, c.loop-k.at)) k
-    ∙ sym (c.loop-k.invariant.1 ∙ seat_ended (part c.args.to c.args.e c.args.out.now) c.args.out.now c.loop-k.k c.loop-k.at ns (omega (arith, long)))
+    ∙ sym (c.loop-k.invariant.1 ∙ seat_ended (part c.args.to c.args.e c.args.out.now) c.args.out.now c.loop-k.k c.loop-k.at ns (omega arith))
