@@ -5,7 +5,7 @@ use frames::Kind;
 use marks::Counts;
 use sorts::Refusal;
 
-// What a record's line says: the record's kind with the nets or the answer, or the refusal.
+// What a record's line says: the record's kind with the nets or the answer, or the refusal, which is one of the lines that document 01 lists.
 #[derive(Clone, Copy)]
 pub enum Said {
     Changed(Kind, Counts),

@@ -26,7 +26,8 @@ impl fmt::Display for Fault {
     }
 }
 
-// Reads a journal s record by record, from a fresh book, and writes a line for each, and the last line.
+// Reads a journal s record by record, from a fresh book, and writes a line for each, and the last line. A loop of its own, as document 01
+// names it (see `journal::left_by`).
 fn list_records<W: Write>(out: &mut W, s: &[u8]) -> io::Result<()>
     requires { length s.now ≤ 65536 }
     ensures { OnOk result (TookListing s.now (W.contents out.old) (W.contents out.new)) }

@@ -55,7 +55,7 @@ impl<W: Write> PieceOutput for W {
     }
 }
 
-// Writes a number, digit by digit.
+// Writes a number, digit by digit: no `Display`, since each digit is a write of its own.
 fn write_digits<P: PieceOutput>(out: &mut P, n: usize) -> io::Result<()>
     ensures { OnOk result (P.took out.old out.new (each (decimal n))) }
 {

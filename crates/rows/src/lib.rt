@@ -8,7 +8,8 @@ ghost use Rattle.rows.specs.Inner.Lookup.{find_row, entered};
 use sorts::{GrantNo, Row};
 use std::marker::Model;
 
-// The book's rows and the count of the numbers given: an array, since a book goes in and out by value and takes no memory.
+// The book's rows and the count of the numbers given: an array, since a book goes in and out by value and takes no memory. A table that is
+// lent may have any count: so there is no invariant, and no method for `rows[..count]`.
 #[derive(Clone, Copy)]
 pub struct Table {
     pub rows: [Row; Table::ROWS],
