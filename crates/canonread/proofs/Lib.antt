@@ -1,4 +1,5 @@
 pub mod Blank
 pub mod Fuse
 pub mod Read
+pub mod Twice
 pub mod Whole

@@ -6,7 +6,7 @@ ghost use Rattle.std.specs.Prelude.{◌≡◌};
 ghost use Rattle.grants.specs.Inner.OnePass.{Matches};
 ghost use Rattle.canonread.specs.Inner.Again.{holds_grant, num_form, num_concl_form};
 
-use ranges::Scope;
+use ranges::{Cursor, Scope};
 use rows::Numbering;
 use sorts::{Concl, GrantNo, Refusal, Row};
 
@@ -20,37 +20,45 @@ fn holds_grant(s: &[u8]) -> bool
 
 // The next two differ in each step: one function for both would take the steps as closures, and be longer.
 
-// The grant at a place of a record.
+// The grant from the cursor on.
 #[tactic(auto, unfolding(crate::specs::Inner::Again::num_form, grants::specs::Inner::OnePass::onward))]
-pub fn read_grant(s: &[u8], at: usize, t: &mut Numbering) -> Result<(GrantNo, usize), Refusal>
-    ensures { Matches (num_form s.now at t.old) result t.new }
+pub fn read_grant<'a>(c: Cursor<'a>, t: &mut Numbering) -> Result<(GrantNo, Cursor<'a>), Refusal>
+    ensures { Matches c.entry (λ s at. num_form s at t.old) result t.new }
 {
     let mut as_written = *t;
-    let (_, n) = grants::read_grant(s, at, Row::DEPTHS, &mut as_written)?;
+    let (_, after) = grants::read_grant(c, Row::DEPTHS, &mut as_written)?;
+    let rest = &c.bytes[c.at.min(c.bytes.len())..];
     let mut form = [0u8; canonwrite::MOST_GRANT];
-    canonwrite::write_grant(&s[at.min(s.len())..], &mut form);
-    let (no, _) = grants::read_grant(&form, 0, Row::DEPTHS, t)?;
-    Ok((no, n))
+    canonwrite::write_grant(rest, &mut form);
+    let formed = Cursor {
+        bytes: &form,
+        at: 0,
+    };
+    let (no, _) = grants::read_grant(formed, Row::DEPTHS, t)?;
+    Ok((no, after))
 }
 
-// The conclusion at a place of a record, of a grant that declares v. One that holds no grant is its own form.
+// The conclusion from the cursor on, of a grant that declares v. One that holds no grant is its own form.
 #[tactic(auto, using(crate::proofs::Whole::told), unfolding(crate::specs::Inner::Again::num_concl_form, grants::specs::Inner::OnePass::onward))]
-pub fn read_concl(
-    s: &[u8],
-    at: usize,
+pub fn read_concl<'a>(
+    c: Cursor<'a>,
     v: Scope,
     t: &mut Numbering,
-) -> Result<(Concl, usize), Refusal>
-    ensures { Matches (num_concl_form v s.now at t.old) result t.new }
+) -> Result<(Concl, Cursor<'a>), Refusal>
+    ensures { Matches c.entry (λ s at. num_concl_form v s at t.old) result t.new }
 {
-    let rest = &s[at.min(s.len())..];
+    let rest = &c.bytes[c.at.min(c.bytes.len())..];
     if !holds_grant(rest) {
-        return grants::read_concl(s, at, Row::DEPTHS, v, t);
+        return grants::read_concl(c, Row::DEPTHS, v, t);
     }
     let mut as_written = *t;
-    let (_, n) = grants::read_concl(s, at, Row::DEPTHS, v, &mut as_written)?;
+    let (_, after) = grants::read_concl(c, Row::DEPTHS, v, &mut as_written)?;
     let mut form = [0u8; canonwrite::MOST_CONCL];
     canonwrite::write_concl(rest, &mut form);
-    let (what, _) = grants::read_concl(&form, 0, Row::DEPTHS, v, t)?;
-    Ok((what, n))
+    let formed = Cursor {
+        bytes: &form,
+        at: 0,
+    };
+    let (what, _) = grants::read_concl(formed, Row::DEPTHS, v, t)?;
+    Ok((what, after))
 }

@@ -1,5 +1,6 @@
 -- What a closure makes of a number that was found.
 use Prim.Native.Nat.{ℕ}
+use mathlib.Core.List.{List}
 use mathlib.Core.Path.{◌≡◌, ap, ◌∙◌}
 use Rattle.std.specs.Prelude.{Result, Ok, Err}
 use Rattle.std.specs.Result.{MatchResult, IsOkAnd}
@@ -7,6 +8,7 @@ use Rattle.sorts.specs.declared.GrantNo.{GrantNo}
 use Rattle.sorts.specs.declared.Refusal.{Refusal}
 use Rattle.rows.specs.declared.Table.{Table}
 use Rattle.rows.specs.declared.Numbering.{Numbering}
+use Rattle.ranges.specs.declared.Cursor.{Cursor}
 use Rattle.ranges.proofs.Answers.{was_got}
 use Rattle.grants.specs.Inner.OnePass.{Numbered, Matches}
 use Rattle.contents.specs.declared.Request.{Request}
@@ -20,7 +22,7 @@ module _ (answers : GrantNo → Request → Type 0) (q : GrantNo → Request) (m
   asked_is (Err k) r h = h
 
 -- a grant that was read to be revised
-pub revised_is : (q : GrantNo → Request) (t : Table) (R : Numbered GrantNo) (r : Result (GrantNo × ℕ) Refusal) (u : Numbering) (g : GrantNo) (n : ℕ) (f : Result Request Refusal) →
-    Matches R r u → r ≡ Ok (g, n) → f ≡ asked q (known t.count u.full g) → ◌≡◌ {A = Result Reading Refusal} (Ok (record { table = t; found = f; used = n })) (revision_of q t R)
-revised_is q t R r u g n f m e h =
-    rw (was_got R.out m.value e) (ap (λ (x : Result Request Refusal). Ok (record { table = t; found = x; used = n })) (h ∙ ap (λ (w : Numbering). asked q (known t.count w.full g)) m.numbering))
+pub revised_is : (q : GrantNo → Request) (t : Table) (c : Cursor) (reader : List ℕ → ℕ → Numbered GrantNo) (r : Result (GrantNo × Cursor) Refusal) (u : Numbering) (g : GrantNo) (d : Cursor) (f : Result Request Refusal) →
+    Matches c reader r u → r ≡ Ok (g, d) → f ≡ asked q (known t.count u.full g) → ◌≡◌ {A = Result Reading Refusal} (Ok (record { table = t; found = f; used = d.at })) (revision_of q t (reader c.bytes.now c.at))
+revised_is q t c reader r u g d f m e h =
+    rw (was_got c _ m.value e).found (ap (λ (x : Result Request Refusal). Ok (record { table = t; found = x; used = d.at })) (h ∙ ap (λ (w : Numbering). asked q (known t.count w.full g)) m.numbering))

@@ -241,7 +241,7 @@ module _ (t : Table) (f : TableForm t) where
         (revision_right r q v (and_then (read_grant depths s at) (λ g n. got (canon g) n)) (num_form s at (starting t)) (grant_fused at))
 
     licence_content : (r : Prin → Grant → Record) (F : Prin → ℕ → Result Reading Refusal) → ((p : Prin) (at : ℕ) → Right N (in_form (read_entry (r p) s at)) (F p at)) →
-        Right N (in_form (read_licence r s 0)) (on_outcome (issuer s) Err F)
+        Right N (in_form (read_licence r s 0)) (on_outcome (issuer s 0) Err F)
     unfolding read_licence issuer
     licence_content r F h = go (upto (speakers - 1) s 0)
       where
@@ -290,7 +290,7 @@ revision_keeps q s at t = go (num_form s at (starting t)).out
     go (got g n) = λ h. refl
     go (refused k) = tt
 
-query_keeps : (s : List ℕ) (t : Table) → IfOk (num_query s t) (Keeps t)
+query_keeps : (s : List ℕ) (t : Table) → IfOk (num_query s 0 t) (Keeps t)
 unfolding num_query
 query_keeps s t = go (num_concl_form nothing_declared s 0 (starting t)).out
   where
@@ -298,8 +298,8 @@ query_keeps s t = go (num_concl_form nothing_declared s 0 (starting t)).out
     go (got c n) = given_keeps t _ (Query c) n refl
     go (refused k) = tt
 
-licence_keeps : (s : List ℕ) (t : Table) (F : Prin → ℕ → Result Reading Refusal) → ((p : Prin) (at : ℕ) → IfOk (F p at) (Keeps t)) → IfOk (on_outcome (issuer s) Err F) (Keeps t)
-licence_keeps s t F h = go (issuer s)
+licence_keeps : (s : List ℕ) (t : Table) (F : Prin → ℕ → Result Reading Refusal) → ((p : Prin) (at : ℕ) → IfOk (F p at) (Keeps t)) → IfOk (on_outcome (issuer s 0) Err F) (Keeps t)
+licence_keeps s t F h = go (issuer s 0)
   where
     go : (o : Outcome Prin) → IfOk (on_outcome o Err F) (Keeps t)
     go (got p n) = h p n

@@ -2,11 +2,11 @@
 #![tactic(auto)]
 
 ghost use Rattle.std.specs.Prelude.{◌≡◌};
-ghost use Rattle.ranges.specs.Bytes.{as_result};
+ghost use Rattle.ranges.specs.Bytes.{as_read};
 ghost use Rattle.contents.specs.Inner.Numbered.{Makes, starting, no_r, given, known, issuer, num_entry, num_revision, num_query, num_content};
 
 use frames::Kind;
-use ranges::Scope;
+use ranges::{Cursor, Scope};
 use rows::{Numbering, Table};
 use sorts::{Concl, GrantNo, Prin, Refusal, Status};
 
@@ -82,51 +82,50 @@ fn known(count: usize, full: bool, no: GrantNo) -> Result<GrantNo, Refusal>
 
 // A grant to enter, numbered where it is new.
 #[tactic(auto, unfolding(crate::specs::Inner::Numbered::num_entry))]
-fn read_entry(s: &[u8], at: usize, by: Status, t: Numbering) -> Result<Reading, Refusal>
-    ensures { result ≡ num_entry by s.now at t.table }
+fn read_entry(c: Cursor, by: Status, t: Numbering) -> Result<Reading, Refusal>
+    ensures { result ≡ num_entry by c.entry.bytes.now c.entry.at t.table }
 {
     let mut u = start(t);
-    let (no, n) = canonread::read_grant(s, at, &mut u)?;
-    Ok(given(t.table, u, Request::Enter(by, no), n))
+    let (no, c) = canonread::read_grant(c, &mut u)?;
+    Ok(given(t.table, u, Request::Enter(by, no), c.at))
 }
 
 // A grant to revise, and what is asked of its number; nothing is numbered.
 fn read_revision<F: FnOnce(GrantNo) -> Request>(
-    s: &[u8],
-    at: usize,
+    c: Cursor,
     asks: F,
     t: Numbering,
 ) -> Result<Reading, Refusal>
     requires { F.IsAlwaysCallable asks }
-    ensures { (q : GrantNo → Request) → Makes (F.post asks) q → result ≡ num_revision q s.now at t.table }
+    ensures { (q : GrantNo → Request) → Makes (F.post asks) q → result ≡ num_revision q c.entry.bytes.now c.entry.at t.table }
 {
     let mut u = start(t);
-    let (no, n) = canonread::read_grant(s, at, &mut u)?;
+    let (no, c) = canonread::read_grant(c, &mut u)?;
     Ok(Reading {
         table: t.table,
         found: known(t.table.count, u.full, no).map(asks),
-        used: n,
+        used: c.at,
     })
 }
 
 // The closed conclusion of a query, its grants numbered where they are new.
 #[tactic(auto, unfolding(crate::specs::Inner::Numbered::num_query))]
-fn read_query(s: &[u8], t: Numbering) -> Result<Reading, Refusal>
-    ensures { result ≡ num_query s.now t.table }
+fn read_query(c: Cursor, t: Numbering) -> Result<Reading, Refusal>
+    ensures { result ≡ num_query c.entry.bytes.now c.entry.at t.table }
 {
     let nothing = Scope { prins: 0, res: 0 };
     let mut u = start(t);
-    let (what, n) = canonread::read_concl(s, 0, nothing, &mut u)?;
-    Ok(given(t.table, u, Request::Query(what), n))
+    let (what, c) = canonread::read_concl(c, nothing, &mut u)?;
+    Ok(given(t.table, u, Request::Query(what), c.at))
 }
 
 // The issuer, with which a content on a licence begins.
 #[tactic(auto, unfolding(crate::specs::Inner::Numbered::issuer))]
-fn read_issuer(s: &[u8]) -> Result<(Prin, usize), Refusal>
-    ensures { result ≡ as_result (issuer s.now) }
+fn read_issuer<'a>(c: Cursor<'a>) -> Result<(Prin, Cursor<'a>), Refusal>
+    ensures { result ≡ as_read c.entry issuer }
 {
-    let (p, n) = ranges::read_upto(LAST_ISSUER, s, 0)?;
-    Ok((Prin(p), n))
+    let (p, c) = c.upto(LAST_ISSUER)?;
+    Ok((Prin(p), c))
 }
 
 // What a record of kind k with the content c asks, over the table of t; or the first fault in the content.
@@ -134,29 +133,30 @@ fn read_issuer(s: &[u8]) -> Result<(Prin, usize), Refusal>
 pub fn read_content(k: Kind, c: &[u8], t: Numbering) -> Result<Reading, Refusal>
     ensures { result ≡ num_content k c.now t.table }
 {
+    let c = Cursor { bytes: c, at: 0 };
     match k {
-        Kind::Tg => read_entry(c, 0, Status::Trusted, t),
-        Kind::St => read_revision(c, 0, |no| Request::Remove(Status::Trusted, no), t),
+        Kind::Tg => read_entry(c, Status::Trusted, t),
+        Kind::St => read_revision(c, |no| Request::Remove(Status::Trusted, no), t),
         Kind::Li => {
-            let (p, n) = read_issuer(c)?;
-            read_entry(c, n, Status::Issued(p), t)
+            let (p, c) = read_issuer(c)?;
+            read_entry(c, Status::Issued(p), t)
         }
         Kind::Wd => {
-            let (p, n) = read_issuer(c)?;
-            read_revision(c, n, |no| Request::Remove(Status::Issued(p), no), t)
+            let (p, c) = read_issuer(c)?;
+            read_revision(c, |no| Request::Remove(Status::Issued(p), no), t)
         }
         Kind::Qu => read_query(c, t),
         Kind::Pl => {
-            let (p, n) = read_issuer(c)?;
-            read_entry(c, n, Status::Provisional(p), t)
+            let (p, c) = read_issuer(c)?;
+            read_entry(c, Status::Provisional(p), t)
         }
         Kind::Cf => {
-            let (p, n) = read_issuer(c)?;
-            read_revision(c, n, |no| Request::Confirm(p, no), t)
+            let (p, c) = read_issuer(c)?;
+            read_revision(c, |no| Request::Confirm(p, no), t)
         }
         Kind::Pv => {
-            let (p, n) = read_issuer(c)?;
-            read_revision(c, n, |no| Request::Preview(p, no), t)
+            let (p, c) = read_issuer(c)?;
+            read_revision(c, |no| Request::Preview(p, no), t)
         }
     }
 }

@@ -3,37 +3,36 @@
 
 ghost use Rattle.std.specs.Prelude.{◌≡◌, ◌≤◌};
 ghost use Rattle.sorts.specs.Numbers.{conditions};
-ghost use Rattle.ranges.specs.Bytes.{as_result};
+ghost use Rattle.ranges.specs.Bytes.{as_read};
 ghost use Rattle.grants.specs.Inner.OnePass.{Matches, blank_conds, num_grant, num_concl, num_conds, num_issue, num_property, num_packed};
 
-use ranges::Scope;
+use ranges::{Cursor, Scope};
 use rows::Numbering;
 use sorts::{Concl, Cond, GrantNo, Number, Pack, Prin, Refusal, Res, Row};
 
 // The last property.
 const LAST_PROPERTY: u8 = Number::PROPERTIES as u8 - 1;
 
-// Each reader finds a value with the place after it, or the first fault; in the table that it is lent it numbers what it reads.
+// Each reader finds a value with the cursor after it, or the first fault; in the table that it is lent it numbers what it reads.
 
 // A grant; `left` grants may stand one inside the other from here on, this one counted.
 #[cycle(grants)]
 #[tactic(auto, unfolding(crate::specs::Inner::OnePass::num_grant, crate::specs::Inner::OnePass::num_with, crate::specs::Inner::OnePass::onward))]
-pub fn read_grant(
-    s: &[u8],
-    at: usize,
+pub fn read_grant<'a>(
+    c: Cursor<'a>,
     left: u8,
     t: &mut Numbering,
-) -> Result<(GrantNo, usize), Refusal>
-    ensures { Matches (num_grant left s.now at t.old) result t.new }
+) -> Result<(GrantNo, Cursor<'a>), Refusal>
+    ensures { Matches c.entry (λ s at. num_grant left s at t.old) result t.new }
 {
     if left == 0 {
         return Err(Refusal::Depth);
     }
     let below = left - 1;
-    let (h, n) = ranges::read_header(s, at)?;
+    let (h, c) = c.header()?;
     let v = h.scope;
-    let (conds, n1) = read_conds(s, n, below, v, h.count, t)?;
-    let (head, n2) = read_concl(s, n1, below, v, t)?;
+    let (conds, c) = read_conds(c, below, v, h.count, t)?;
+    let (head, c) = read_concl(c, below, v, t)?;
     let row = Row {
         prins: v.prins,
         res: v.res,
@@ -42,34 +41,33 @@ pub fn read_grant(
         head,
     };
     let no = t.enter(row);
-    Ok((no, n2))
+    Ok((no, c))
 }
 
 // So many conditions of a grant that declares v; the places after them are blank.
 #[cycle(grants)]
 #[tactic(auto, unfolding(crate::specs::Inner::OnePass::num_conds, crate::specs::Inner::OnePass::onward))]
-fn read_conds(
-    s: &[u8],
-    at: usize,
+fn read_conds<'a>(
+    c: Cursor<'a>,
     below: u8,
     v: Scope,
     count: u8,
     t: &mut Numbering,
-) -> Result<([Cond; Row::CONDITIONS], usize), Refusal>
+) -> Result<([Cond; Row::CONDITIONS], Cursor<'a>), Refusal>
     requires { count ≤ conditions }
-    ensures { Matches (num_conds (num_grant below s.now) v s.now count at 0 blank_conds t.old) result t.new }
+    ensures { Matches c.entry (λ s at. num_conds (num_grant below s) v s count at 0 blank_conds t.old) result t.new }
 {
     let blank = Cond::blank();
     let mut conds = [blank; Row::CONDITIONS];
-    let mut n = at;
+    let mut n = c;
     for i in 0..count as usize {
-        let (who, n1) = ranges::read_prin(v, s, n)?;
-        let (what, n2) = read_concl(s, n1, below, v, t)?;
+        let (who, after) = n.prin(v)?;
+        let (what, after) = read_concl(after, below, v, t)?;
         conds[i] = Cond {
             who: Prin(who),
             what,
         };
-        n = n2;
+        n = after;
     }
     Ok((conds, n))
 }
@@ -78,69 +76,72 @@ fn read_conds(
 // would be made of it by the same comparisons.
 #[cycle(grants)]
 #[tactic(auto, unfolding(crate::specs::Inner::OnePass::num_concl, crate::specs::Inner::OnePass::onward))]
-pub fn read_concl(
-    s: &[u8],
-    at: usize,
+pub fn read_concl<'a>(
+    c: Cursor<'a>,
     below: u8,
     v: Scope,
     t: &mut Numbering,
-) -> Result<(Concl, usize), Refusal>
-    ensures { Matches (num_concl (num_grant below s.now) v s.now at t.old) result t.new }
+) -> Result<(Concl, Cursor<'a>), Refusal>
+    ensures { Matches c.entry (λ s at. num_concl (num_grant below s) v s at t.old) result t.new }
 {
-    let (kind, n1) = ranges::read_upto(3, s, at)?;
+    let (kind, c) = c.upto(3)?;
     if kind == 0 {
-        return read_property(s, n1, v);
+        return read_property(c, v);
     }
-    let (p, n2) = ranges::read_prin(v, s, n1)?;
+    let (p, c) = c.prin(v)?;
     if kind == 1 {
-        read_issue(s, n2, below, v, Prin(p), t)
+        read_issue(c, below, v, Prin(p), t)
     } else {
-        read_packed(s, n2, v, kind, Prin(p))
+        read_packed(c, v, kind, Prin(p))
     }
 }
 
 // The property and the principal of a conclusion of kind 0.
 #[tactic(auto, unfolding(crate::specs::Inner::OnePass::num_property))]
-fn read_property(s: &[u8], at: usize, v: Scope) -> Result<(Concl, usize), Refusal>
-    ensures { result ≡ as_result (num_property v s.now at) }
+fn read_property<'a>(c: Cursor<'a>, v: Scope) -> Result<(Concl, Cursor<'a>), Refusal>
+    ensures { result ≡ as_read c.entry (num_property v) }
 {
-    let (k, n1) = ranges::read_upto(LAST_PROPERTY, s, at)?;
-    let (p, n2) = ranges::read_prin(v, s, n1)?;
-    Ok((Concl::Property(k, Prin(p)), n2))
+    let (k, c) = c.upto(LAST_PROPERTY)?;
+    let (p, c) = c.prin(v)?;
+    Ok((Concl::Property(k, Prin(p)), c))
 }
 
 // The pack of p's run right (kind 2) or export right (kind 3).
 #[tactic(auto, unfolding(crate::specs::Inner::OnePass::num_packed))]
-fn read_packed(s: &[u8], at: usize, v: Scope, kind: u8, p: Prin) -> Result<(Concl, usize), Refusal>
-    ensures { result ≡ as_result (num_packed v kind p s.now at) }
+fn read_packed<'a>(
+    c: Cursor<'a>,
+    v: Scope,
+    kind: u8,
+    p: Prin,
+) -> Result<(Concl, Cursor<'a>), Refusal>
+    ensures { result ≡ as_read c.entry (num_packed v kind p) }
 {
-    let (n, n1) = ranges::read_pack(v, s, at)?;
+    let (n, c) = c.pack(v)?;
     let over = if kind == 2 {
         Res::Run(Pack(n))
     } else {
         Res::Export(Pack(n))
     };
-    Ok((Concl::Perm(p, over), n1))
+    Ok((Concl::Perm(p, over), c))
 }
 
 // What p's issue right is over: a whole grant or the grant variable.
 #[cycle(grants)]
 #[tactic(auto, unfolding(crate::specs::Inner::OnePass::num_issue, crate::specs::Inner::OnePass::onward))]
-fn read_issue(
-    s: &[u8],
-    at: usize,
+fn read_issue<'a>(
+    c: Cursor<'a>,
     below: u8,
     v: Scope,
     p: Prin,
     t: &mut Numbering,
-) -> Result<(Concl, usize), Refusal>
-    ensures { Matches (num_issue (num_grant below s.now) v p s.now at t.old) result t.new }
+) -> Result<(Concl, Cursor<'a>), Refusal>
+    ensures { Matches c.entry (λ s at. num_issue (num_grant below s) v p s at t.old) result t.new }
 {
-    let (tag, n1) = ranges::read_tag(v, s, at)?;
+    let (tag, c) = c.tag(v)?;
     if tag == 1 {
         let any = GrantNo(GrantNo::VAR);
-        return Ok((Concl::Perm(p, Res::Issue(any)), n1));
+        return Ok((Concl::Perm(p, Res::Issue(any)), c));
     }
-    let (no, n2) = read_grant(s, n1, below, t)?;
-    Ok((Concl::Perm(p, Res::Issue(no)), n2))
+    let (no, c) = read_grant(c, below, t)?;
+    Ok((Concl::Perm(p, Res::Issue(no)), c))
 }

@@ -6,6 +6,7 @@ use Rattle.sorts.specs.declared.Refusal.{Refusal}
 use Rattle.sorts.specs.declared.Refusal.TheVariants.{Missing, Range, Variable}
 use Rattle.ranges.specs.declared.Scope.{Scope}
 use Rattle.ranges.specs.declared.Header.{Header}
+use Rattle.ranges.specs.declared.Cursor.{Cursor}
 
 -- What reading finds: a value and the place after it, or the first fault from left to right.
 pub data Outcome (A : Type 0) : Type 0 where
@@ -21,6 +22,15 @@ and_then (refused k) f = refused k
 abbrev pub as_result : {A : Type 0} → Outcome A → Result (A × ℕ) Refusal
 as_result (got a n) = Ok (a, n)
 as_result (refused k) = Err k
+
+-- The same with the place in a cursor, which stays on the bytes of c.
+abbrev pub with_cursor : {A : Type 0} → Cursor → Outcome A → Result (A × Cursor) Refusal
+with_cursor c (got a n) = Ok (a, record { bytes = c.bytes; at = n })
+with_cursor c (refused k) = Err k
+
+-- What the code answers where a reader of bytes at a place reads on from c.
+abbrev pub as_read : {A : Type 0} → Cursor → (List ℕ → ℕ → Outcome A) → Result (A × Cursor) Refusal
+as_read c reader = with_cursor c (reader c.bytes.now c.at)
 
 -- 1: "a byte is missing".
 unfoldable pub byte_at : List ℕ → ℕ → Outcome ℕ

@@ -2,7 +2,7 @@
 #![tactic(auto)]
 
 ghost use Rattle.std.specs.Prelude.{◌≡◌};
-ghost use Rattle.ranges.specs.Bytes.{as_result, byte_at, declared, upto, principal, pack, tag, header};
+ghost use Rattle.ranges.specs.Bytes.{as_read, with_cursor, byte_at, declared, upto, principal, pack, tag, header};
 
 use sorts::{Pack, Prin, Refusal, Row};
 
@@ -21,93 +21,104 @@ pub struct Header {
     pub count: u8,
 }
 
-// Each reader finds a value with the place after it, or the first fault. The bytes and the place stay two parameters: the definitions read
-// a list at a place, and a value of both would be opened in each contract.
-
-// The byte at a place.
-#[tactic(auto, unfolding(crate::specs::Bytes::byte_at))]
-fn read_byte(s: &[u8], at: usize) -> Result<(u8, usize), Refusal>
-    ensures { result ≡ as_result (byte_at s.now at) }
-{
-    if at < s.len() {
-        Ok((s[at], at + 1))
-    } else {
-        Err(Refusal::Missing)
-    }
+// The bytes of a record, and the place from which on they are read.
+#[derive(Clone, Copy)]
+pub struct Cursor<'a> {
+    pub bytes: &'a [u8],
+    pub at: usize,
 }
 
-// A byte that is at most `most`.
-#[tactic(auto, unfolding(crate::specs::Bytes::upto))]
-pub fn read_upto(most: u8, s: &[u8], at: usize) -> Result<(u8, usize), Refusal>
-    ensures { result ≡ as_result (upto most s.now at) }
+// A listed variable byte, which is good where the variable is declared; c is the cursor after it.
+fn variable<'a>(is: bool, b: u8, c: Cursor<'a>) -> Result<(u8, Cursor<'a>), Refusal>
+    ensures { result ≡ with_cursor c.entry (declared is b c.entry.at) }
 {
-    let (b, n) = read_byte(s, at)?;
-    if b <= most {
-        Ok((b, n))
-    } else {
-        Err(Refusal::Range)
-    }
+    is.then_some((b, c)).ok_or(Refusal::Variable)
 }
 
-// A listed variable byte, which is good where the variable is declared.
-fn variable(is: bool, b: u8, n: usize) -> Result<(u8, usize), Refusal>
-    ensures { result ≡ as_result (declared is b n) }
-{
-    is.then_some((b, n)).ok_or(Refusal::Variable)
-}
+// Each reader finds a value with the cursor after it, or the first fault.
+impl<'a> Cursor<'a> {
+    // The byte at the place.
+    #[tactic(auto, unfolding(crate::specs::Bytes::byte_at))]
+    fn byte(self) -> Result<(u8, Cursor<'a>), Refusal>
+        ensures { result ≡ as_read self.entry byte_at }
+    {
+        if self.at < self.bytes.len() {
+            let after = Cursor {
+                at: self.at + 1,
+                ..self
+            };
+            Ok((self.bytes[self.at], after))
+        } else {
+            Err(Refusal::Missing)
+        }
+    }
 
-// A principal, or a variable that is declared.
-#[tactic(auto, unfolding(crate::specs::Bytes::principal))]
-pub fn read_prin(v: Scope, s: &[u8], at: usize) -> Result<(u8, usize), Refusal>
-    ensures { result ≡ as_result (principal v s.now at) }
-{
-    let (b, n) = read_byte(s, at)?;
-    if b < Prin::COUNT {
-        return Ok((b, n));
+    // A byte that is at most `most`.
+    #[tactic(auto, unfolding(crate::specs::Bytes::upto))]
+    pub fn upto(self, most: u8) -> Result<(u8, Cursor<'a>), Refusal>
+        ensures { result ≡ as_read self.entry (upto most) }
+    {
+        let (b, c) = self.byte()?;
+        if b <= most {
+            Ok((b, c))
+        } else {
+            Err(Refusal::Range)
+        }
     }
-    match b {
-        Prin::FIRST => variable(0 < v.prins, b, n),
-        Prin::SECOND => variable(1 < v.prins, b, n),
-        _ => Err(Refusal::Range),
-    }
-}
 
-// A pack, or the pack variable where it is declared.
-#[tactic(auto, unfolding(crate::specs::Bytes::pack))]
-pub fn read_pack(v: Scope, s: &[u8], at: usize) -> Result<(u8, usize), Refusal>
-    ensures { result ≡ as_result (pack v s.now at) }
-{
-    let (b, n) = read_byte(s, at)?;
-    if b < Pack::COUNT {
-        return Ok((b, n));
+    // A principal, or a variable that is declared.
+    #[tactic(auto, unfolding(crate::specs::Bytes::principal))]
+    pub fn prin(self, v: Scope) -> Result<(u8, Cursor<'a>), Refusal>
+        ensures { result ≡ as_read self.entry (principal v) }
+    {
+        let (b, c) = self.byte()?;
+        if b < Prin::COUNT {
+            return Ok((b, c));
+        }
+        match b {
+            Prin::FIRST => variable(0 < v.prins, b, c),
+            Prin::SECOND => variable(1 < v.prins, b, c),
+            _ => Err(Refusal::Range),
+        }
     }
-    match b {
-        Pack::VAR => variable(v.res == 2, b, n),
-        _ => Err(Refusal::Range),
-    }
-}
 
-// What follows an issue right's principal: 0 where a grant comes, 1 for the grant variable where it is declared.
-#[tactic(auto, unfolding(crate::specs::Bytes::tag))]
-pub fn read_tag(v: Scope, s: &[u8], at: usize) -> Result<(u8, usize), Refusal>
-    ensures { result ≡ as_result (tag v s.now at) }
-{
-    let (b, n) = read_byte(s, at)?;
-    match b {
-        0 => Ok((b, n)),
-        1 => variable(v.res == 1, b, n),
-        _ => Err(Refusal::Range),
+    // A pack, or the pack variable where it is declared.
+    #[tactic(auto, unfolding(crate::specs::Bytes::pack))]
+    pub fn pack(self, v: Scope) -> Result<(u8, Cursor<'a>), Refusal>
+        ensures { result ≡ as_read self.entry (pack v) }
+    {
+        let (b, c) = self.byte()?;
+        if b < Pack::COUNT {
+            return Ok((b, c));
+        }
+        match b {
+            Pack::VAR => variable(v.res == 2, b, c),
+            _ => Err(Refusal::Range),
+        }
     }
-}
 
-// The three bytes that open a grant.
-#[tactic(auto, unfolding(crate::specs::Bytes::header))]
-pub fn read_header(s: &[u8], at: usize) -> Result<(Header, usize), Refusal>
-    ensures { result ≡ as_result (header s.now at) }
-{
-    let (prins, n1) = read_upto(2, s, at)?;
-    let (res, n2) = read_upto(2, s, n1)?;
-    let (count, n3) = read_upto(Row::CONDITIONS as u8, s, n2)?;
-    let scope = Scope { prins, res };
-    Ok((Header { scope, count }, n3))
+    // What follows an issue right's principal: 0 where a grant comes, 1 for the grant variable where it is declared.
+    #[tactic(auto, unfolding(crate::specs::Bytes::tag))]
+    pub fn tag(self, v: Scope) -> Result<(u8, Cursor<'a>), Refusal>
+        ensures { result ≡ as_read self.entry (tag v) }
+    {
+        let (b, c) = self.byte()?;
+        match b {
+            0 => Ok((b, c)),
+            1 => variable(v.res == 1, b, c),
+            _ => Err(Refusal::Range),
+        }
+    }
+
+    // The three bytes that open a grant.
+    #[tactic(auto, unfolding(crate::specs::Bytes::header))]
+    pub fn header(self) -> Result<(Header, Cursor<'a>), Refusal>
+        ensures { result ≡ as_read self.entry header }
+    {
+        let (prins, c) = self.upto(2)?;
+        let (res, c) = c.upto(2)?;
+        let (count, c) = c.upto(Row::CONDITIONS as u8)?;
+        let scope = Scope { prins, res };
+        Ok((Header { scope, count }, c))
+    }
 }

@@ -13,5 +13,5 @@ pub returns : goal.returns
 unfolding num_revision
 returns g c q m =
     rw (← c.t.view_is)
-    (revised_is q _ _ _ _ _ _ _ (rw (c.start-u.ensures, ← c.t.view_is) at c.read_grant.ensures) c.in_ok-no.was
+    (revised_is q _ _ _ _ _ _ _ _ (rw (c.start-u.ensures, ← c.t.view_is) at c.read_grant.ensures) c.in_ok-no.was
     (asked_is _ q m _ _ c.map.ensures.cases ∙ ap (asked q) (c.known.ensures ∙ ap (λ (w : Numbering). known c.t.inside.table.count w.full c.in_ok-no.no) c.u.view_is)))

@@ -60,19 +60,19 @@ num_revision q s at t = revision_of q t (num_form s at (starting t))
 abbrev pub query_of : Table → Numbered Concl → Result Reading Refusal
 query_of t r = on_outcome r.out Err (λ c n. Ok (given t r.numbering (Query c) n))
 
-unfoldable pub num_query : List ℕ → Table → Result Reading Refusal
-num_query s t = query_of t (num_concl_form nothing_declared s 0 (starting t))
+unfoldable pub num_query : List ℕ → ℕ → Table → Result Reading Refusal
+num_query s at t = query_of t (num_concl_form nothing_declared s at (starting t))
 
 -- the issuer byte, with which a content on a licence begins
-unfoldable pub issuer : List ℕ → Outcome Prin
-issuer s = and_then (upto (speakers - 1) s 0) (λ p n. got (record { 0 = p }) n)
+unfoldable pub issuer : List ℕ → ℕ → Outcome Prin
+issuer s at = and_then (upto (speakers - 1) s at) (λ p n. got (record { 0 = p }) n)
 
 unfoldable pub num_content : Kind → List ℕ → Table → Result Reading Refusal
 num_content Tg c t = num_entry Trusted c 0 t
 num_content St c t = num_revision (Remove Trusted) c 0 t
-num_content Li c t = on_outcome (issuer c) Err (λ p n. num_entry (Issued p) c n t)
-num_content Wd c t = on_outcome (issuer c) Err (λ p n. num_revision (Remove (Issued p)) c n t)
-num_content Qu c t = num_query c t
-num_content Pl c t = on_outcome (issuer c) Err (λ p n. num_entry (Provisional p) c n t)
-num_content Cf c t = on_outcome (issuer c) Err (λ p n. num_revision (Confirm p) c n t)
-num_content Pv c t = on_outcome (issuer c) Err (λ p n. num_revision (Preview p) c n t)
+num_content Li c t = on_outcome (issuer c 0) Err (λ p n. num_entry (Issued p) c n t)
+num_content Wd c t = on_outcome (issuer c 0) Err (λ p n. num_revision (Remove (Issued p)) c n t)
+num_content Qu c t = num_query c 0 t
+num_content Pl c t = on_outcome (issuer c 0) Err (λ p n. num_entry (Provisional p) c n t)
+num_content Cf c t = on_outcome (issuer c 0) Err (λ p n. num_revision (Confirm p) c n t)
+num_content Pv c t = on_outcome (issuer c 0) Err (λ p n. num_revision (Preview p) c n t)

@@ -1,6 +1,7 @@
 -- Each inner grant leaves one depth less.
-use Rattle.std.proofs.Common.{◌≡◌, ◌+◌, ◌*◌, ◌-◌}
+use Rattle.std.proofs.Common.{◌+◌, ◌*◌, ◌-◌}
 use Rattle.grants.specs.Inner.OnePass.{blank_conds, num_conds, num_grant}
+use Rattle.grants.proofs.Steps.{GoesOn}
 use Rattle.grants.proofs.+grants.Given as goal
 
 abbrev pub decreases-read_concl : goal.decreases-read_concl
@@ -17,4 +18,4 @@ decreases-read_issue l = 4 * l.below + 1
 
 abbrev pub invariant-read_conds-loop-i : goal.invariant-read_conds-loop-i
 invariant-read_conds-loop-i l =
-    num_conds (num_grant l.below l.s) l.v l.s l.count l.fn.at 0 blank_conds l.fn.t ≡ num_conds (num_grant l.below l.s) l.v l.s (l.count - l.i) l.n l.i l.conds l.t
+    GoesOn l.fn.c (λ s at. num_conds (num_grant l.below s) l.v s l.count at 0 blank_conds l.fn.t) l.n (λ s at. num_conds (num_grant l.below s) l.v s (l.count - l.i) at l.i l.conds l.t)

@@ -13,7 +13,8 @@ use Rattle.sorts.specs.Blank.{blank_cond}
 use Rattle.rows.specs.declared.Numbering.{Numbering}
 use Rattle.rows.specs.Inner.Lookup.{Entered, entered}
 use Rattle.ranges.specs.declared.Scope.{Scope}
-use Rattle.ranges.specs.Bytes.{Outcome, got, refused, and_then, as_result, upto, principal, pack, tag, header}
+use Rattle.ranges.specs.declared.Cursor.{Cursor}
+use Rattle.ranges.specs.Bytes.{Outcome, got, refused, and_then, as_read, upto, principal, pack, tag, header}
 
 -- What a reader leaves: the numbering, and what it found.
 pub record Numbered (A : Type 0) : Type 0 where
@@ -23,10 +24,10 @@ pub record Numbered (A : Type 0) : Type 0 where
 abbrev pub over : {A : Type 0} → Numbering → Outcome A → Numbered A
 over t o = record { numbering = t; out = o }
 
--- The code answers r and leaves the numbering t, as the reader does.
-pub record Matches {A : Type 0} (reader : Numbered A) (r : Result (A × ℕ) Refusal) (t : Numbering) : Type 0 where
-  pub value : r ≡ as_result reader.out
-  pub numbering : t ≡ reader.numbering
+-- Where the reader reads on from c, the code answers r and leaves the numbering t.
+pub record Matches {A : Type 0} (c : Cursor) (reader : List ℕ → ℕ → Numbered A) (r : Result (A × Cursor) Refusal) (t : Numbering) : Type 0 where
+  pub value : r ≡ as_read c (λ s at. (reader s at).out)
+  pub numbering : t ≡ (reader c.bytes.now c.at).numbering
 
 -- by cases on an outcome
 abbrev pub on_outcome : {A R : Type 0} → Outcome A → (Refusal → R) → (A → ℕ → R) → R
