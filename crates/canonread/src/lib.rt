@@ -10,7 +10,8 @@ use ranges::{Cursor, Scope};
 use rows::Numbering;
 use sorts::{Concl, GrantNo, Refusal, Row};
 
-// Whether the conclusion that s opens with holds a grant, by its bytes, which may be faulty yet: they are no kind that was read.
+// Whether the conclusion that s opens with holds a grant, by its bytes, which may be faulty yet: they are no kind that was read. The writing
+// compares the same two at a place; a function for both would be longer than either.
 #[tactic(auto, unfolding(crate::specs::Inner::Again::holds_grant))]
 fn holds_grant(s: &[u8]) -> bool
     ensures { result ≡ holds_grant s.now }
