@@ -9,7 +9,7 @@ use lib.ListN.{length}
 use Rattle.sorts.specs.declared.Prin.{Prin}
 use Rattle.sorts.specs.declared.Status.{Status}
 use Rattle.sorts.specs.declared.Status.TheVariants.{Trusted, Issued, Provisional}
-use Rattle.sorts.specs.Numbers.{number_of, all_marks, grants}
+use Rattle.sorts.specs.Numbers.{number_of, grants}
 use Rattle.sorts.specs.Flags.{StatusRange}
 use Rattle.sorts.specs.declared.Refusal.TheVariants as refusal
 use Rattle.sorts.specs.declared.Refusal.{Refusal}
@@ -52,7 +52,7 @@ use Rattle.requests.specs.Inner.Apply.{answered, applied_to, marks_applied_to, p
 use Rattle.book.proofs.Showing.{shown_more, shown_book}
 use Rattle.book.proofs.Forms.{table_rows, number_has, found_fits, firm_status}
 
-module _ (b : Book) (m k v s : List ℕ) (f : BookForm b m k) (vl : length v ≡ all_marks) (r : Reading) (R : Reads s b.table r) where
+module _ (b : Book) (m k v s : List ℕ) (f : BookForm b m k) (r : Reading) (R : Reads s b.table r) where
   abbrev N : List Grant
   N = rows_out b.table.rows b.table.count
 
@@ -67,15 +67,8 @@ module _ (b : Book) (m k v s : List ℕ) (f : BookForm b m k) (vl : length v ≡
   numbered = rows_all b.table f.canonical
 
   -- what the code needs holds
-  pub ready : Ready b m k v r
-  ready = record {
-    rows = table_rows b.table f.table;
-    next = table_rows r.table (R.form f.table);
-    marks = f.marks.count;
-    second = f.second.count;
-    preview = vl;
-    fits = subst FoundFits (sym (R.found f.table)) (found_fits N s);
-  }
+  pub ready : Ready b r
+  ready = record { rows = table_rows b.table f.table; next = table_rows r.table (R.form f.table); fits = subst FoundFits (sym (R.found f.table)) (found_fits N s) }
 
   module _ (E : List Entry) (sh : Shows b (record { entries = E; N = N })) where
     abbrev M : State

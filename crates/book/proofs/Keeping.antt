@@ -1,5 +1,5 @@
 -- A call keeps its promise, by whether the book is in form.
-use mathlib.Core.Path.{◌≡◌, refl, sym, ap, subst}
+use mathlib.Core.Path.{◌≡◌, refl, sym, ap, ap₂, subst, ◌∙◌}
 use mathlib.Core.List.{List}
 use mathlib.Core.Option.{some}
 use native.Mathlib.Omega.{arith}
@@ -37,8 +37,15 @@ called_formed b m k v s r a n l w f R e h g p = record {
       subst (λ (x : Answered). Follows M (step M s) b m k v x n l w) (sym e)
       (subst (λ (x : List ℕ). Follows M (step M s) b m k v (applied b m k r) x l w) (sym h)
       (subst (λ (x : List ℕ). Follows M (step M s) b m k v (applied b m k r) (marks_applied firm_marks b m r) x w) (sym g)
-      (subst (λ (x : List ℕ). Follows M (step M s) b m k v (applied b m k r) (marks_applied firm_marks b m r) (marks_applied both_marks b k r) x) (sym p) (follows b m k v s f.book f.preview r R M sh))));
+      (subst (λ (x : List ℕ). Follows M (step M s) b m k v (applied b m k r) (marks_applied firm_marks b m r) (marks_applied both_marks b k r) x) (sym p) (follows b m k v s f.book r R M sh))));
 }
+
+-- and where what is lent is taken as arrays, which hold the same
+pub called_taken : {b : Book} {m m' k k' v v' s : List ℕ} (r : Reading) {a : Answered} {n l w : List ℕ} → m' ≡ m → k' ≡ k → v' ≡ v → Lent b m k v → Reads s b.table r → a ≡ applied b m' k' r →
+    n ≡ marks_applied firm_marks b m' r → l ≡ marks_applied both_marks b k' r → w ≡ preview_applied b v' r → Called b m k v s a n l w
+called_taken {b} {m} {m'} {k} {k'} {v} {v'} {s} r {a} {n} {l} {w} x y z f R e h g p =
+    called_formed b m k v s r a n l w f R (e ∙ ap₂ (λ (i j : List ℕ). applied b i j r) x y) (h ∙ ap (λ (i : List ℕ). marks_applied firm_marks b i r) x)
+    (g ∙ ap (λ (i : List ℕ). marks_applied both_marks b i r) y) (p ∙ ap (λ (i : List ℕ). preview_applied b i r) z)
 
 -- What the reader turned back is answered with its number and its bytes used, and the book stays.
 pub turned_back : (b : Book) (m l : List ℕ) (t : Table) (n : ℕ) (f : Result Request Refusal) (k : Refusal) → number_found f ≡ some (refusal_number k) → applied_to b m l t n f ≡ refused_with b k n

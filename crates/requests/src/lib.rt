@@ -8,18 +8,18 @@ ghost use Rattle.requests.specs.Inner.Apply.{Ready, done, applied, marks_applied
 use answer::{Answer, Answered, refuse};
 use bookform::Book;
 use contents::{Reading, Request};
-use sorts::Refusal;
+use sorts::{Number, Refusal};
 
 // What a record asks, done: the book after it and the answer, or why it is refused.
 #[tactic(auto, unfolding(crate::specs::Inner::Apply::done, crate::specs::Inner::Apply::marks_applied, crate::specs::Inner::Apply::preview_applied))]
 fn act(
     b: Book,
     r: Reading,
-    marks: &mut [u8],
-    second: &mut [u8],
-    preview: &mut [u8],
+    marks: &mut [u8; Number::MARKS],
+    second: &mut [u8; Number::MARKS],
+    preview: &mut [u8; Number::MARKS],
 ) -> Result<(Book, Answer), Refusal>
-    requires { Ready b marks.old second.old preview.old r }
+    requires { Ready b r }
     ensures value { result ≡ done b marks.old second.old r }
     ensures marks { marks.new ≡ marks_applied firm_marks b marks.old r }
     ensures second { second.new ≡ marks_applied both_marks b second.old r }
@@ -39,11 +39,11 @@ fn act(
 pub fn apply(
     b: Book,
     r: Reading,
-    marks: &mut [u8],
-    second: &mut [u8],
-    preview: &mut [u8],
+    marks: &mut [u8; Number::MARKS],
+    second: &mut [u8; Number::MARKS],
+    preview: &mut [u8; Number::MARKS],
 ) -> Answered
-    requires { Ready b marks.old second.old preview.old r }
+    requires { Ready b r }
     ensures value { result ≡ applied b marks.old second.old r }
     ensures marks { marks.new ≡ marks_applied firm_marks b marks.old r }
     ensures second { second.new ≡ marks_applied both_marks b second.old r }

@@ -1,5 +1,5 @@
 -- What is done with a record that was read, as the code does it.
-use Rattle.std.specs.Prelude.{ℕ, ◌<◌, ◌≡◌, cond, List, length, Result, Ok, Err}
+use Rattle.std.specs.Prelude.{ℕ, ◌<◌, cond, List, Result, Ok, Err}
 use Rattle.sorts.specs.declared.Status.TheVariants.{Issued, Provisional}
 use Rattle.sorts.specs.Numbers.{number_of, all_marks}
 use Rattle.sorts.specs.declared.Refusal.{Refusal}
@@ -69,10 +69,7 @@ unfoldable pub preview_applied : Book → List ℕ → Reading → List ℕ
 preview_applied b v r = preview_applied_to b v r.found
 
 -- what the code needs of a book and what was read
-pub record Ready (b : Book) (m k v : List ℕ) (r : Reading) : Type 0 where
+pub record Ready (b : Book) (r : Reading) : Type 0 where
   pub rows : RowsForm b.table.rows
   pub next : RowsForm r.table.rows
-  pub marks : length m ≡ all_marks
-  pub second : length k ≡ all_marks
-  pub preview : length v ≡ all_marks
   pub fits : FoundFits r.found

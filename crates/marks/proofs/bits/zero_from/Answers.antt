@@ -1,4 +1,4 @@
-use Prim.Native.Nat.{ℕ, min}
+use Prim.Native.Nat.{ℕ, ◌-◌, min}
 use mathlib.Core.Path.{◌≡◌, subst}
 use mathlib.Core.List.{List}
 use native.Mathlib.Omega.{arith}
@@ -13,4 +13,4 @@ returns c =
     let s = c.args.s.now in
     let at = c.min.result in
     let e : at ≡ min c.args.from (length s) = c.min.ensures in
-    zeros_decide s c.args.from at c.most.result (omega arith) (λ l. omega arith) (subst (λ (xs : List ℕ). Most xs c.most.result) (half_rest at s) c.most.ensures)
+    zeros_decide s c.args.from at c.most.result (omega arith) (λ l. omega arith) (subst (λ (xs : List ℕ). Most xs c.most.result) (half_rest at (length s - at) s (omega arith)) c.most.ensures)
