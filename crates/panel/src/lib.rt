@@ -47,7 +47,8 @@ fn one(c: Concl, marks: &[u8], second: &[u8]) -> u32
     }
 }
 
-// The word of one right: from the last pack to the first, twice what was there and one bit more.
+// The word of one right: from the last pack to the first, twice what was there and one bit more. A loop of its own, for the panel needs none
+// of the evaluation's crates.
 fn word(p: u8, x: PackRight, marks: &[u8], second: &[u8]) -> u32
     requires { (p < speakers) × (length marks.now ≡ all_marks) × (length second.now ≡ all_marks) }
     ensures { WordOf marks.now second.now p x result }

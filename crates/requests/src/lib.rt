@@ -10,7 +10,8 @@ use bookform::Book;
 use contents::{Reading, Request};
 use sorts::{Number, Refusal};
 
-// What a record asks, done: the book after it and the answer, or why it is refused.
+// What a record asks, done: the book after it and the answer, or why it is refused. Here and below each buffer is handed on by itself, as in
+// `book::call`: the contracts say of each what it is after.
 #[tactic(auto, unfolding(crate::specs::Inner::Apply::done, crate::specs::Inner::Apply::marks_applied, crate::specs::Inner::Apply::preview_applied))]
 fn act(
     b: Book,
