@@ -73,7 +73,8 @@ fn admit(b: Book, marks: &[u8], second: &[u8], p: u8) -> Result<(), Refusal>
     Ok(())
 }
 
-// The panel of a principal over a lent book.
+// The panel of a principal over a lent book. The marks stay slices, as they are lent: `admit` says that they are as many as there are, and
+// arrays would be two more refusals here.
 pub fn show(b: Book, marks: &[u8], second: &[u8], p: u8) -> Result<Panel, Refusal>
     ensures { PanelOf b marks.now second.now p result }
 {
