@@ -11,7 +11,7 @@ use marks::Counts;
 use rows::Table;
 use sorts::{Concl, Number, Refusal};
 
-// What a call answers.
+// What a call answers: document 01 counts a refusal among the answers.
 #[derive(Clone, Copy)]
 pub enum Answer {
     Permitted,
@@ -41,7 +41,8 @@ pub fn refuse(b: Book, k: Refusal, used: usize) -> Answered
     }
 }
 
-// The answer for a closed conclusion, from its marks: the second is read only where the first is 0.
+// The answer for a closed conclusion, from its marks: the second is read only where the first is 0. They are slices, since the number alone
+// must be below their length: an array would ask more.
 // Three of the answers to a call: an enum of the three would be turned into an `Answer` at once.
 pub fn answer_for(c: Concl, marks: &[u8], second: &[u8]) -> Answer
     requires { (number_of c < length marks.now) × (number_of c < length second.now) }

@@ -87,7 +87,7 @@ pub fn conditions_ascend(t: Table) -> bool
     if all_keys_ascend(t) {
         return true;
     }
-    // The words of each row, by its number.
+    // The words of each row, by its number, for the rows after it.
     let mut words = [[0u64; WORDS]; Table::ROWS];
     for i in 0..t.count {
         let x = t.rows[i];

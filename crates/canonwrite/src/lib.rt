@@ -24,7 +24,7 @@ pub struct Place {
 }
 
 // The same with the lengths of the segments, of which the first `count` are meant: a list of a fixed length, since no memory is
-// taken. The two places stand here and in no `Place`, since each step reads and sets one of them.
+// taken. The two places stand here as they are: the contracts and each step name them, and an inner `Place` would stand before each.
 #[derive(Clone, Copy)]
 pub struct Segments {
     pub at: usize,

@@ -62,7 +62,7 @@ pub fn depths_ok(t: Table) -> bool
     requires { (t.count ≤ grants) × ((i : ℕ) → i < t.count → RowForm i (get_or t.rows i no_row)) }
     ensures { Decides result ((i : ℕ) → i < t.count → depth (get_or (rows_out t.rows t.count) i no_grant) ≤ depths) }
 {
-    // The depth of each row, by its number.
+    // The depth of each row, by its number, for the rows after it.
     let mut depths = [0u8; Table::ROWS];
     for i in 0..t.count {
         let x = t.rows[i];

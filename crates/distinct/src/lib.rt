@@ -66,7 +66,7 @@ pub fn distinct_rows(t: Table) -> bool
     requires { t.count ≤ grants }
     ensures { Decides result ((i j : ℕ) → i < t.count → j < t.count → get_or t.rows i no_row ≡ get_or t.rows j no_row → i ≡ j) }
 {
-    // The key of each row, by its number.
+    // The key of each row, by its number, for the rows after it.
     let mut keys = [0u64; Table::ROWS];
     for i in 0..t.count {
         let k = row_key(t.rows[i]);

@@ -7,6 +7,8 @@ ghost use Rattle.flags.specs.Inner.Rows.{Clash, ApartAt};
 
 use sorts::{GrantNo, Prin, Status};
 
+// A status and a grant's number are two parameters, as in the definitions.
+
 // Whether the grant stands so: what has no flag does not.
 pub fn is_set(flags: [u8; Status::ALL], by: Status, g: GrantNo) -> bool
     ensures { result ≡ is_set flags by g.0 }

@@ -15,7 +15,8 @@ pub enum Said {
     Refused(Refusal),
 }
 
-// A line: of a record, with its number; the last, with the count of records and of marks; of a journal that is refused whole.
+// A line: of a record, with its number; the last, with the count of records and of marks; of a journal that is refused whole, whose line
+// document 01 has as well.
 #[derive(Clone, Copy)]
 pub enum Line {
     Record(usize, Said),

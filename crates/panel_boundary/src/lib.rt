@@ -26,7 +26,8 @@ fn panel_after(s: &[u8], p: u8) -> Result<Panel, Refusal>
     panel::show(left.book, &left.marks, &left.second, p)
 }
 
-// Two words as bytes, the first word first, and of each the high byte first. Byte by byte, since `concat` takes memory.
+// Two words as bytes, the first word first, and of each the high byte first. Byte by byte: `concat` takes memory, and the
+// bytes of one 64-bit number would have to be shown of a shift.
 fn words(a: u32, b: u32) -> [u8; 8]
     ensures { result ≡ bytes_of a ++ bytes_of b }
 {

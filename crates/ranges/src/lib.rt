@@ -6,7 +6,8 @@ ghost use Rattle.ranges.specs.Bytes.{as_read, with_cursor, byte_at, declared, up
 
 use sorts::{Pack, Prin, Refusal, Row};
 
-// The variables that a grant declares: how many of principals, and the resource variable (0 none, 1 over grants, 2 over packs).
+// The variables that a grant declares: how many of principals, and the resource variable (0 none, 1 over grants, 2 over packs). Bytes, since
+// they go into the row as they are.
 #[derive(Clone, Copy)]
 pub struct Scope {
     pub prins: u8,

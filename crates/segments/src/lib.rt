@@ -24,7 +24,7 @@ pub fn put(out: &mut [u8], to: usize, b: u8)
     }
 }
 
-// What stands from b up to e put before what stands from a up to b.
+// What stands from b up to e put before what stands from a up to b, in one buffer: so the parts are told by places.
 pub fn turn(out: &mut [u8], a: usize, b: usize, e: usize)
     requires { (a ≤ b) × (b ≤ e) × (e ≤ length out.old) }
     ensures { out.new ≡ turn out.old a b e }
