@@ -19,7 +19,8 @@ fn holds_grant(s: &[u8]) -> bool
     segments::byte_at(s, 0) == 1 && segments::byte_at(s, 2) == 0
 }
 
-// The next two differ in each step: one function for both would take the steps as closures, and be longer.
+// The next two differ in each step: one function for both would take the steps as closures, and be longer. Each cuts what follows the cursor,
+// and makes one at the form's first byte: a method for either would be longer than its two uses.
 
 // The grant from the cursor on.
 #[tactic(auto, unfolding(crate::specs::Inner::Again::num_form, grants::specs::Inner::OnePass::onward))]

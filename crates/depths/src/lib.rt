@@ -12,7 +12,8 @@ ghost use Rattle.depths.specs.Inner.Depths.{depth_of_res, depth_of_concl, depth_
 use rows::Table;
 use sorts::{Concl, Cond, Res, Row};
 
-// The depth of the grant that a resource is, 0 where it is none; each grant's depth stands at its number.
+// The depth of the grant that a resource is, 0 where it is none; each grant's depth stands at its number. The test says which numbers have a
+// row.
 fn res_depth(depths: [u8; Table::ROWS], x: Res) -> u8
     ensures { result ≡ depth_of_res depths x }
 {

@@ -43,7 +43,7 @@ fn read_framed(k: Kind, c: &[u8], t: Numbering) -> Reading
     whole(t.table, c.len(), contents::read_content(k, c, t))
 }
 
-// The record that s starts with, over a table of grants numbered before.
+// The record that s starts with, over a table of grants numbered before. The count is tested here: a `TryFrom` would have this one caller.
 pub fn read_record(s: &[u8], t: Table) -> Reading
     ensures { Reads s.now t result }
 {
