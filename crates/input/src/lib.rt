@@ -29,7 +29,6 @@ fn again(error: &io::Error, tries: usize) -> bool
 // read. A journal that is too long is seen by its first byte too many. A loop of its own: `read_to_end` takes memory, and says little after
 // an `Err`.
 pub fn read_all<R: Read>(reader: &mut R, buf: &mut [u8]) -> Result<usize, Failure>
-    requires { 65536 < length buf.old }
     ensures { HasRead (R.remaining reader.old) (R.remaining reader.new) buf.new result }
 {
     let mut n = 0;

@@ -1,6 +1,7 @@
 -- What the program writes.
 use Rattle.std.specs.Prelude.{ℕ, ◌≤◌, List, length, Option}
 use Rattle.std.specs.Io.KnownBytes.{Appends, Consumes, IsAtEnd}
+use Rattle.places.specs.Places.{longest_journal}
 use Rattle.lines.specs.Pieces.{joined}
 use Rattle.listings.specs.Listings.{Listed}
 
@@ -14,5 +15,5 @@ pub record TookListing (s : List ℕ) (old new : Option (List ℕ)) : Type 0 whe
 pub record Lists (given left old new : Option (List ℕ)) : Type 0 where
   pub s : List ℕ
   pub consumed : Consumes given left s
-  pub ended : length s ≤ 65536 → IsAtEnd left
+  pub ended : length s ≤ longest_journal → IsAtEnd left
   pub took : TookListing s old new

@@ -2,6 +2,7 @@
 #![tactic(auto)]
 
 ghost use Rattle.std.specs.Prelude.{◌≤◌, length, OnOk};
+ghost use Rattle.places.specs.Places.{longest_journal};
 ghost use Rattle.listing.specs.Writing.{TookListing, Lists};
 
 use bookform::Book;
@@ -29,7 +30,7 @@ impl fmt::Display for Fault {
 // Reads a journal s record by record, from a fresh book, and writes a line for each, and the last line. A loop of its own, as document 01
 // names it (see `journal::left_by`).
 fn list_records<W: Write>(out: &mut W, s: &[u8]) -> io::Result<()>
-    requires { length s.now ≤ 65536 }
+    requires { length s.now ≤ longest_journal }
     ensures { OnOk result (TookListing s.now (W.contents out.old) (W.contents out.new)) }
 {
     let mut b = Book::new();
@@ -62,7 +63,7 @@ fn list<W: Write>(out: &mut W, s: &[u8]) -> io::Result<()>
 fn run<R: Read, W: Write>(reader: &mut R, out: &mut W) -> Result<(), Fault>
     ensures { OnOk result (Lists (R.remaining reader.old) (R.remaining reader.new) (W.contents out.old) (W.contents out.new)) }
 {
-    let mut bytes = [0u8; 65537];
+    let mut bytes = [0u8; places::MOST + 1];
     let n = input::read_all(reader, &mut bytes).map_err(|_| Fault::Reading)?;
     list(out, &bytes[..n]).map_err(|_| Fault::Writing)
 }

@@ -7,6 +7,7 @@ use Rattle.answer.specs.declared.Answer.TheVariants.{Permitted, Open, NotPermitt
 use Rattle.bookform.specs.Books.{fresh_book, fresh_marks}
 use Rattle.book.specs.Chains.{Call}
 use Rattle.demands.specs.Demands.{Demand3}
+use Rattle.places.specs.Places.{longest_journal}
 use Rattle.lines.specs.declared.Line.{Line}
 use Rattle.lines.specs.Pieces.{Carries}
 use Rattle.journal.specs.Lines.{line_of, end_of, refused_line}
@@ -34,8 +35,8 @@ record_lines n (c ∷ cs) = line_of n c.record' c.gave.answer ∷ record_lines (
 -- THE LISTING of a journal: "Refusal 8 is the one line `refused 8`", "a journal over 65,536 bytes"; else the lines of its
 -- records, from a fresh book, with a preview buffer that starts at 0, and the last line, which counts the marks of the first buffer.
 pub data Listed (s : List ℕ) : List (List ℕ) → Type 0 where
-  over : 65536 < length s → Listed s (refused_line 8 ∷ [])
-  read : (cs : List Call) (b : Book) (m k v : List ℕ) → length s ≤ 65536 → Calls fresh_book fresh_marks fresh_marks fresh_marks s cs b m k v →
+  over : longest_journal < length s → Listed s (refused_line 8 ∷ [])
+  read : (cs : List Call) (b : Book) (m k v : List ℕ) → length s ≤ longest_journal → Calls fresh_book fresh_marks fresh_marks fresh_marks s cs b m k v →
       Listed s (record_lines 1 cs ++ (end_of (length cs) m ∷ []))
 
 -- DEMANDED of the listing of a journal s that is not too long: it is the lines of its calls and the last line, and of these calls

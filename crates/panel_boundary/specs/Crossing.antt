@@ -5,6 +5,7 @@ use Rattle.sorts.specs.declared.Refusal.TheVariants.{Length}
 use Rattle.sorts.specs.Refusals.{refusal_number}
 use Rattle.bookform.specs.declared.Book.{Book}
 use Rattle.bookform.specs.Books.{fresh_marks}
+use Rattle.places.specs.Places.{longest_journal}
 use Rattle.journal.specs.declared.Left.{Left}
 use Rattle.journal.specs.Journals.{Leaves}
 use Rattle.panel.specs.declared.Panel.{Panel}
@@ -12,14 +13,14 @@ use Rattle.panel.specs.Panels.{PanelOf}
 
 -- What a journal s leaves; one over 65,536 bytes is refused.
 abbrev pub JournalLeft : List ℕ → Result Left Refusal → Type 0
-JournalLeft s (Ok l) = (length s ≤ 65536) × Leaves s l.book l.marks l.second l.preview
-JournalLeft s (Err j) = (65536 < length s) × (j ≡ Length)
+JournalLeft s (Ok l) = (length s ≤ longest_journal) × Leaves s l.book l.marks l.second l.preview
+JournalLeft s (Err j) = (longest_journal < length s) × (j ≡ Length)
 
 -- The panel of principal p over the book that a journal s leaves. "Refusal 8 is only for a whole journal, before every other check":
 -- "a journal over 65,536 bytes".
 pub data JournalPanel (s : List ℕ) (p : ℕ) : Result Panel Refusal → Type 0 where
-  over : 65536 < length s → JournalPanel s p (Err Length)
-  read : (b : Book) (m k v : List ℕ) (r : Result Panel Refusal) → length s ≤ 65536 → Leaves s b m k v → PanelOf b m k p r → JournalPanel s p r
+  over : longest_journal < length s → JournalPanel s p (Err Length)
+  read : (b : Book) (m k v : List ℕ) (r : Result Panel Refusal) → length s ≤ longest_journal → Leaves s b m k v → PanelOf b m k p r → JournalPanel s p r
 
 -- The four bytes of a 32-bit word, high byte first.
 abbrev pub bytes_of : ℕ → List ℕ
@@ -46,5 +47,5 @@ pub record Crossed (s : List ℕ) (p k : ℕ) (w : List ℕ) : Type 0 where
 -- has 8, and each byte is 0. For any other it is 0, and the bytes are those that the calls on its records, from a fresh book and with
 -- all three buffers 0, leave in the preview buffer.
 pub data JournalPreview (s : List ℕ) : ℕ → List ℕ → Type 0 where
-  blank : 65536 < length s → JournalPreview s 8 fresh_marks
-  left : (b : Book) (m k v : List ℕ) → length s ≤ 65536 → Leaves s b m k v → JournalPreview s 0 v
+  blank : longest_journal < length s → JournalPreview s 8 fresh_marks
+  left : (b : Book) (m k v : List ℕ) → length s ≤ longest_journal → Leaves s b m k v → JournalPreview s 0 v

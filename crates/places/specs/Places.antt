@@ -1,5 +1,9 @@
--- Where the records of a journal start.
+-- Where the records of a journal start, and how many bytes it may have.
 use Rattle.std.specs.Prelude.{ℕ, ◌+◌, min, cond, List, [], drop, eqb}
+
+-- "A journal over 65,536 bytes" is refused.
+abbrev pub longest_journal : ℕ
+longest_journal = 65536
 
 -- "One record may be followed by others; the answer carries the bytes used." Document 02, 7: "Only refusals 1 and 2 still end the
 -- reading": they use no byte. What is left to read of a journal s after a record of it.

@@ -2,14 +2,14 @@
 #![tactic(auto)]
 
 ghost use Rattle.std.specs.Prelude.{◌≡◌, ◌≤◌, ltb};
-ghost use Rattle.places.specs.Places.{next_place};
+ghost use Rattle.places.specs.Places.{longest_journal, next_place};
 
 // The most bytes that a journal has.
-const MOST: usize = 65536;
+pub const MOST: usize = 65536;
 
 // Whether a journal of n bytes has too many.
 pub fn over(n: usize) -> bool
-    ensures { result ≡ ltb 65536 n }
+    ensures { result ≡ ltb longest_journal n }
 {
     MOST < n
 }

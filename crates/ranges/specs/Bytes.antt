@@ -1,7 +1,7 @@
 -- Document 01, "How a grant is written" and the refusals 1, 3 and 4 of "Where a record is turned back": reading one byte.
 -- A record is the list s of its bytes and of those after it; a place is counted from 0.
 use Rattle.std.specs.Prelude.{ℕ, ◌+◌, Bool, cond, List, Result, Ok, Err, length, get_or, ltb, leb, eqb}
-use Rattle.sorts.specs.Numbers.{conditions, packs, principals}
+use Rattle.sorts.specs.Numbers.{conditions, packs, principals, first_var, second_var, item_var}
 use Rattle.sorts.specs.declared.Refusal.{Refusal}
 use Rattle.sorts.specs.declared.Refusal.TheVariants.{Missing, Range, Variable}
 use Rattle.ranges.specs.declared.Scope.{Scope}
@@ -50,15 +50,15 @@ unfoldable pub principal : Scope → List ℕ → ℕ → Outcome ℕ
 principal v s at =
     and_then (byte_at s at) (λ b n.
     cond (ltb b principals) (got b n)
-    (cond (eqb b 128) (declared (ltb 0 v.prins) b n)
-    (cond (eqb b 129) (declared (ltb 1 v.prins) b n) (refused Range))))
+    (cond (eqb b first_var) (declared (ltb 0 v.prins) b n)
+    (cond (eqb b second_var) (declared (ltb 1 v.prins) b n) (refused Range))))
 
 -- "a pack 00 to 1F, or 80 for the pack variable"
 unfoldable pub pack : Scope → List ℕ → ℕ → Outcome ℕ
 pack v s at =
     and_then (byte_at s at) (λ b n.
     cond (ltb b packs) (got b n)
-    (cond (eqb b 128) (declared (eqb v.res 2) b n) (refused Range)))
+    (cond (eqb b item_var) (declared (eqb v.res 2) b n) (refused Range)))
 
 -- "00 and a whole grant, or 01 for the grant variable"; "a listed variable byte that is undeclared is 4, also at 01 after an issue"
 unfoldable pub tag : Scope → List ℕ → ℕ → Outcome ℕ

@@ -6,17 +6,17 @@ use Rattle.sorts.specs.declared.Concl as c
 use Rattle.sorts.specs.declared.Concl.TheVariants.{Property, Perm}
 use Rattle.sorts.specs.declared.Cond.{Cond}
 use Rattle.sorts.specs.declared.Row.{Row}
-use Rattle.sorts.specs.Numbers.{grants, conditions, depths}
+use Rattle.sorts.specs.Numbers.{grants, conditions, depths, item_var}
 use Rattle.sorts.specs.Blank.{blank_cond, blank_row, no_row}
 use Rattle.sorts.specs.RowForm.{RowForm}
 use Rattle.rows.specs.declared.Table.{Table}
 use Rattle.rows.specs.Written.{Grant, Conds, Concl, Right, grant, none, also, property, perm, issue, issue_any, run, export, how_many}
 use Rattle.rows.specs.Numbering.{place}
 
--- "A row is the grant with each inner grant as its number": its place in N. In a row the grant variable is 128.
+-- "A row is the grant with each inner grant as its number": its place in N. In a row the grant variable is a number of its own.
 abbrev pub res_of : List Grant → Right → r.Res
 res_of N (issue g) = Issue (record { 0 = place g N })
-res_of N issue_any = Issue (record { 0 = 128 })
+res_of N issue_any = Issue (record { 0 = item_var })
 res_of N (run n) = Run (record { 0 = n })
 res_of N (export n) = Export (record { 0 = n })
 
@@ -40,7 +40,7 @@ abbrev pub no_grant : Grant
 no_grant = grant 0 0 none (property 0 0)
 
 abbrev pub write_res : List Grant → r.Res → Right
-write_res N (Issue g) = cond (eqb g.0 128) issue_any (issue (get_or N g.0 no_grant))
+write_res N (Issue g) = cond (eqb g.0 item_var) issue_any (issue (get_or N g.0 no_grant))
 write_res N (Run n) = run n.0
 write_res N (Export n) = export n.0
 

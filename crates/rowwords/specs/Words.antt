@@ -7,17 +7,18 @@ use Rattle.sorts.specs.declared.Concl.{Concl}
 use Rattle.sorts.specs.declared.Concl.TheVariants.{Property, Perm}
 use Rattle.sorts.specs.declared.Cond.{Cond}
 use Rattle.sorts.specs.declared.Row.{Row}
+use Rattle.sorts.specs.Numbers.{conditions, item_var}
 use Rattle.sorts.specs.Blank.{blank_cond}
 
 -- The key of a right of principal p: the kind byte, the principal, and the pack, or 1 for the grant variable and 0 for a grant.
 unfoldable pub res_key : ℕ → Res → ℕ
-res_key p (Issue g) = 65536 + (256 * p + cond (eqb g.0 128) 1 0)
+res_key p (Issue g) = 65536 + (256 * p + cond (eqb g.0 item_var) 1 0)
 res_key p (Run n) = 131072 + (256 * p + n.0)
 res_key p (Export n) = 196608 + (256 * p + n.0)
 
 -- The inner grant that a right is over, counted from 1; 0 where it is over none.
 unfoldable pub res_inner : Res → ℕ
-res_inner (Issue g) = cond (eqb g.0 128) 0 (g.0 + 1)
+res_inner (Issue g) = cond (eqb g.0 item_var) 0 (g.0 + 1)
 res_inner (Run n) = 0
 res_inner (Export n) = 0
 
@@ -39,9 +40,13 @@ concl_inner (Perm p x) = res_inner x
 unfoldable pub concl_word : Concl → ℕ
 concl_word e = 256 * concl_key e + concl_inner e
 
+-- Of three bytes, the first a kind: the keys of conclusions are below this.
+abbrev pub keys : ℕ
+keys = 4 * 65536
+
 -- The key of a condition: who must have said it comes first.
 unfoldable pub cond_key : Cond → ℕ
-cond_key c = 262144 * c.who.0 + concl_key c.what
+cond_key c = keys * c.who.0 + concl_key c.what
 
 -- The word of a condition.
 unfoldable pub cond_word : Cond → ℕ
@@ -54,4 +59,4 @@ header_word x = 256 * (65536 * x.prins + (256 * x.res + x.count))
 -- The words of a row by place, 0 to 5: the counts, the four conditions, the conclusion granted.
 unfoldable pub row_word : Row → ℕ → ℕ
 row_word x zero = header_word x
-row_word x (suc k) = cond (ltb k 4) (cond_word (get_or x.conds k blank_cond)) (concl_word x.head)
+row_word x (suc k) = cond (ltb k conditions) (cond_word (get_or x.conds k blank_cond)) (concl_word x.head)

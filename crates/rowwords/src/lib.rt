@@ -3,7 +3,7 @@
 #![tactic(auto)]
 
 ghost use Rattle.std.specs.Prelude.{◌≡◌, ℕ, ◌+◌, ◌*◌, ◌<◌, get_or};
-ghost use Rattle.rowwords.specs.Words.{res_word, concl_word, cond_word, row_word};
+ghost use Rattle.rowwords.specs.Words.{keys, res_word, concl_word, cond_word, row_word};
 
 use sorts::{Concl, Cond, GrantNo, Prin, Res, Row};
 
@@ -12,6 +12,9 @@ pub const WORDS: usize = 6;
 
 // What a word's key is counted in: below it stands the number of the inner grant, plus 1, or 0 for none.
 pub const INNER: u64 = 256;
+
+// The keys of conclusions are below this: three bytes, the first a kind.
+const KEYS: u64 = 4 * 65536;
 
 // Four bytes as one number, the first the highest.
 fn pack(a: u8, b: u8, c: u8, d: u8) -> u64
@@ -22,7 +25,7 @@ fn pack(a: u8, b: u8, c: u8, d: u8) -> u64
 
 // The word of a right of principal p.
 fn res_word(p: Prin, x: Res) -> u64
-    ensures { (result ≡ res_word p.0 x) × (result < 67108864) }
+    ensures { (result ≡ res_word p.0 x) × (result < 256 * keys) }
 {
     match x {
         Res::Issue(g) => {
@@ -38,7 +41,7 @@ fn res_word(p: Prin, x: Res) -> u64
 
 // The word of a conclusion.
 fn concl_word(e: Concl) -> u64
-    ensures { (result ≡ concl_word e) × (result < 67108864) }
+    ensures { (result ≡ concl_word e) × (result < 256 * keys) }
 {
     match e {
         Concl::Property(k, p) => pack(0, k, p.0, 0),
@@ -50,7 +53,7 @@ fn concl_word(e: Concl) -> u64
 pub fn cond_word(c: Cond) -> u64
     ensures { result ≡ cond_word c }
 {
-    67108864 * c.who.0 as u64 + concl_word(c.what)
+    INNER * KEYS * c.who.0 as u64 + concl_word(c.what)
 }
 
 // The words of a row.

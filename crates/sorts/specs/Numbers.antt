@@ -22,6 +22,17 @@ packs = 32
 abbrev pub grants : ℕ
 grants = 64
 
+-- "80 or 81 for the first or second variable" of a principal, in hexadecimal; "or 80 for the pack variable", which a row also has for
+-- the grant variable.
+abbrev pub first_var : ℕ
+first_var = 128
+
+abbrev pub second_var : ℕ
+second_var = 129
+
+abbrev pub item_var : ℕ
+item_var = 128
+
 -- "how many conditions, 0 to 4", and "depth 4 is the last allowed"
 abbrev pub conditions : ℕ
 conditions = 4

@@ -1,7 +1,7 @@
 -- The form of a row. Document 01: "every other row is in range, with unused conditions blank, distinct, of depth at most 4, uses
 -- only variables it declares, and holds only lower-numbered grants". Distinctness and depth are said of a whole table.
 use Rattle.std.specs.Prelude.{ℕ, ◌≤◌, ◌<◌, ◌≡◌, ◌⊎◌, length, get_or}
-use Rattle.sorts.specs.Numbers.{principals, properties, packs, conditions}
+use Rattle.sorts.specs.Numbers.{principals, properties, packs, conditions, first_var, second_var, item_var}
 use Rattle.sorts.specs.Blank.{blank_cond}
 use Rattle.sorts.specs.declared.Prin.{Prin}
 use Rattle.sorts.specs.declared.Pack.{Pack}
@@ -16,15 +16,15 @@ use Rattle.sorts.specs.declared.Row.{Row}
 
 -- a principal, or a variable that is declared
 abbrev pub PrinForm : ℕ → Prin → Type 0
-PrinForm prins p = (p.0 < principals) ⊎ ((p.0 ≡ 128) × (0 < prins)) ⊎ ((p.0 ≡ 129) × (1 < prins))
+PrinForm prins p = (p.0 < principals) ⊎ ((p.0 ≡ first_var) × (0 < prins)) ⊎ ((p.0 ≡ second_var) × (1 < prins))
 
 -- a pack, or the pack variable where it is declared
 abbrev pub PackForm : ℕ → Pack → Type 0
-PackForm res n = (n.0 < packs) ⊎ ((n.0 ≡ 128) × (res ≡ 2))
+PackForm res n = (n.0 < packs) ⊎ ((n.0 ≡ item_var) × (res ≡ 2))
 
 -- a grant of a lower number, or the grant variable where it is declared; a pack
 abbrev pub ResForm : ℕ → ℕ → Res → Type 0
-ResForm i res (Issue g) = (g.0 < i) ⊎ ((g.0 ≡ 128) × (res ≡ 1))
+ResForm i res (Issue g) = (g.0 < i) ⊎ ((g.0 ≡ item_var) × (res ≡ 1))
 ResForm i res (Run n) = PackForm res n
 ResForm i res (Export n) = PackForm res n
 

@@ -1,6 +1,6 @@
 -- Reading and numbering in one pass over a table, as the code does it.
 use Rattle.std.specs.Prelude.{◌≡◌, ℕ, zero, suc, ◌+◌, ◌-◌, List, Result, cond, set, replicate, eqb}
-use Rattle.sorts.specs.Numbers.{conditions, properties}
+use Rattle.sorts.specs.Numbers.{conditions, properties, item_var}
 use Rattle.sorts.specs.declared.Prin.{Prin}
 use Rattle.sorts.specs.declared.GrantNo.{GrantNo}
 use Rattle.sorts.specs.declared.Res.TheVariants.{Issue, Run, Export}
@@ -52,7 +52,7 @@ num_packed v kind p s at =
 unfoldable pub num_issue : (ℕ → Numbering → Numbered GrantNo) → Scope → Prin → List ℕ → ℕ → Numbering → Numbered Concl
 num_issue inner v p s at t =
     onward (over t (tag v s at)) (λ b n1 u.
-    cond (eqb b 1) (over u (got (Perm p (Issue (record { 0 = 128 }))) n1))
+    cond (eqb b 1) (over u (got (Perm p (Issue (record { 0 = item_var }))) n1))
     (onward (inner n1 u) (λ g n2 w. over w (got (Perm p (Issue g)) n2))))
 
 unfoldable pub num_concl : (ℕ → Numbering → Numbered GrantNo) → Scope → List ℕ → ℕ → Numbering → Numbered Concl
