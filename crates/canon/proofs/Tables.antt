@@ -71,15 +71,3 @@ module _ (rows : List Row) (count : ℕ) (N : List Grant) (shown : Shown rows co
       go : Dec (i ≡ k) → ((j : ℕ) → j < k → Canonical (get_or N j no_grant)) → Canonical (get_or N i no_grant)
       go (yes e) low = rw e (rw (shown.written k (omega arith)) (row_form N k (numbers_by count rows) (tells_up_to k (omega arith)) (get_or rows k no_row) (shown.used k (omega arith)) low (up k (omega arith))))
       go (no e) low = low i (omega arith)
-
-  -- where the conditions of each row ascend, the grants are in form
-  pub ascending_form : ((i : ℕ) → i < count → Ascends (numbers_by count rows) (get_or rows i no_row)) → (i : ℕ) → i < count → Canonical (get_or N i no_grant)
-  ascending_form up = ascending_below up count (omega arith)
-
-  -- and only there
-  pub form_ascending : (i : ℕ) → i < count → Canonical (get_or N i no_grant) → Ascends (numbers_by count rows) (get_or rows i no_row)
-  form_ascending i l h = form_row N i (numbers_by count rows) (tells_up_to i (omega arith)) (get_or rows i no_row) (shown.used i l) (rw (shown.written i l) at h)
-
-  -- grants of two numbers differ: so a comparison goes inside at most once at each depth
-  pub numbers_apart : (i j : ℕ) → i < count → j < count → numbers_by count rows i j ≡ Ordering.eq → i ≡ j
-  numbers_apart i j a b e = shown.distinct i j (omega (arith, shown.counted)) (omega (arith, shown.counted)) (cmp_eq (get_or N i no_grant) (get_or N j no_grant) (sym (numbers_tell count (omega arith) i j a b) ∙ e))

@@ -34,19 +34,6 @@ ends : (b : List ℕ) (m n : ℕ) → m ≡ n → ◌≡◌ {A = Wrote} (record 
 ends b m n e = λ i. record { bytes = b; next = e i }
 
 module _ (left : ℕ) (s : List ℕ) (at : ℕ) where
-  -- the form written from the bytes
-  pub read_form : (g : Grant) (n : ℕ) → read_grant left s at ≡ got g n → form_grant left s at ≡ record { bytes = written (canon g); next = n }
-  read_form g n e =
-      let x = read_exact left s at g n e in
-      let d = (read_allowed left s at g n e).1 in
-      form_grant_lem g left s at (drop (length (written g)) (drop at s)) d (stands s at (written g) x.2) ∙ ends (written (canon g)) (at + length (written g)) n (sym x.0)
-
-  pub read_form_concl : (v : Scope) (c : Concl) (n : ℕ) → read_concl (read_grant left s) v s at ≡ got c n → form_concl (form_grant left s) s at ≡ record { bytes = written_concl (canon_concl c); next = n }
-  read_form_concl v c n e =
-      let x = concl_exact left s at v c n e in
-      let d = (concl_allowed left s v at c n e).1 in
-      form_concl_lem c left s at (drop (length (written_concl c)) (drop at s)) d (stands s at (written_concl c) x.2) ∙ ends (written_concl (canon_concl c)) (at + length (written_concl c)) n (sym x.0)
-
   -- the reader over what was written
   pub form_reads : (g : Grant) (n : ℕ) → read_grant left s at ≡ got g n → (x y : List ℕ) → read_grant left (x ++ (written (canon g) ++ y)) (length x) ≡ got (canon g) (length x + length (written (canon g)))
   form_reads g n e x y =
@@ -91,16 +78,6 @@ stands_at : (before w : List ℕ) (n : ℕ) (m : Spot) (at to : ℕ) (after : Li
 stands_at before w n m at to after d e = record { used = ap (λ (r : Spot). r.at) e ∙ d.at; ends = omega (arith, ap (λ (r : Spot). r.to) e, d.wr.ends); text = ap (λ (r : Spot). take r.to r.out) e ∙ d.wr.text }
 
 module _ (s before after : List ℕ) (at to : ℕ) where
-  pub grant_stands : (g : Grant) (n : ℕ) → read_grant depths s 0 ≡ got g n → Answers most_grant (put_grant depths s 0 before 0) before after (Told at to) → Stands (written (canon g)) n at to after
-  grant_stands g n e a = stands_at before (written (canon g)) n (put_grant depths s 0 before 0) at to after (form_put s 0 before g n e a.0) a.1
-
-  pub grant_again : (g : Grant) (n : ℕ) → read_grant depths s 0 ≡ got g n → Answers most_grant (put_grant depths s 0 before 0) before after (Told at to) → read_grant depths after 0 ≡ got (canon g) to
-  grant_again g n e a =
-      let x = grant_stands g n e a in
-      let z : 0 + length (written (canon g)) ≡ to = omega (arith, x.ends) in
-      ap (λ (l : List ℕ). read_grant depths l 0) (sym (take-append-drop to after) ∙ ap (λ (l : List ℕ). l ++ drop to after) x.text)
-      ∙ form_reads depths s 0 g n e [] (drop to after) ∙ ap (λ (k : ℕ). got (canon g) k) z
-
   -- and over bytes that open with a conclusion
   pub concl_stands : (v : Scope) (c : Concl) (n : ℕ) → read_concl (read_grant depths s) v s 0 ≡ got c n → Answers most_concl (put_concl (put_grant depths s) s 0 before 0) before after (Told at to) → Stands (written_concl (canon_concl c)) n at to after
   concl_stands v c n e a =

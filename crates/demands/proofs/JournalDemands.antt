@@ -71,11 +71,6 @@ gives_may x y z = (refl, refl)
 
 -- Which stand.
 
-both_true : (a b : Bool) → cond (a && b) true false ≡ true → (a ≡ true) × (b ≡ true)
-both_true true true e = (refl, refl)
-both_true true false e = absurd (no_true e)
-both_true false b e = absurd (no_true e)
-
 -- an entry that is issued is not one that is trusted
 not_trusted : {A : Type 0} (p : ℕ) (g h : Grant) → ◌≡◌ {A = Entry} (record { by = Issued (record { 0 = p }); what = g }) (trusted h) → A
 not_trusted p g h e = absurd (kinds_apart (Issued (record { 0 = p })) Trusted g h (λ q. omega (arith, q)) e)

@@ -33,28 +33,6 @@ record_canonical (confirm p g) = canon_canonical g
 record_canonical (preview p g) = canon_canonical g
 record_canonical (query c) = concl_canonical c
 
--- a record in form is its own form
-pub record_own : (r : Record) → CanonicalRecord r → canon_record r ≡ r
-record_own (enter by g) h = ap (enter by) (canonical_own g h)
-record_own (remove by g) h = ap (remove by) (canonical_own g h)
-record_own (confirm p g) h = ap (confirm p) (canonical_own g h)
-record_own (preview p g) h = ap (preview p) (canonical_own g h)
-record_own (query c) h = ap query (concl_own c h)
-
-pub record_twice : (r : Record) → canon_record (canon_record r) ≡ canon_record r
-record_twice r = record_own (canon_record r) (record_canonical r)
-
-pub record_kind : (r : Record) → kind_of (canon_record r) ≡ kind_of r
-record_kind (enter Trusted g) = refl
-record_kind (enter (Issued p) g) = refl
-record_kind (enter (Provisional p) g) = refl
-record_kind (remove Trusted g) = refl
-record_kind (remove (Issued p) g) = refl
-record_kind (remove (Provisional p) g) = refl
-record_kind (confirm p g) = refl
-record_kind (preview p g) = refl
-record_kind (query c) = refl
-
 -- what can be read can be read in form
 pub record_allowed : (r : Record) → AllowedRecord r → AllowedRecord (canon_record r)
 unfolding AllowedRecord
@@ -79,10 +57,6 @@ pub record_shorter : (r : Record) → length (written_record (canon_record r)) �
 unfolding written_record
 record_shorter r =
     omega (arith, in_frame_length (kind_of (canon_record r)) (content_of (canon_record r)), in_frame_length (kind_of r) (content_of r), content_shorter r)
-
--- the reader over the bytes of a record's form reads the form, whatever follows
-pub record_form_reads : (s : List ℕ) (r : Record) (n : ℕ) → read_record s ≡ got r n → (y : List ℕ) → read_record (written_record (canon_record r) ++ y) ≡ got (canon_record r) (length (written_record (canon_record r)))
-record_form_reads s r n e y = record_read (canon_record r) y (record_allowed r (record_exact s r n e).2)
 
 -- What is read in canonical form is the form of what is read as written, up to the same place; and the faults are the same.
 pub canonical_of : (s : List ℕ) (q : Record) (n : ℕ) → read_record s ≡ got q n → read_canonical s ≡ got (canon_record q) n

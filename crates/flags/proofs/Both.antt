@@ -53,9 +53,6 @@ module _ (flags : List ℕ) where
     both_trusted = both_at_lem (flag_place Trusted g) (place_fits Trusted g tt l) ∙ other_at (flag_place Trusted g) (inl (omega arith))
 
     module _ (p : Prin) (k : p.0 < speakers) where
-      pub both_provisional : flag (both_flags flags) (Provisional p) g ≡ flag flags (Provisional p) g
-      both_provisional = both_at_lem (flag_place (Provisional p) g) (place_fits (Provisional p) g k l) ∙ other_at (flag_place (Provisional p) g) (inr (omega arith))
-
       -- issued by p is the larger of the two flags of p
       pub both_issued : flag (both_flags flags) (Issued p) g ≡ max (flag flags (Issued p) g) (flag flags (Provisional p) g)
       both_issued =
@@ -90,55 +87,6 @@ module _ (flags : List ℕ) where
   both_keeps Trusted g k l n e = n (sym (both_trusted g l) ∙ e)
   both_keeps (Issued p) g k l n e = (both_set g l p k).1 (inl n) e
   both_keeps (Provisional p) g k l n e = absurd k
-
-  -- flags that are 0 or 1 stay so, and then issued by p is 1 exactly where one of the two flags of p is
-  module _ (bits : (i : ℕ) → get_or flags i 0 ≤ 1) where
-    pub both_bits : (i : ℕ) → get_or (both_flags flags) i 0 ≤ 1
-    both_bits i = go (dec_lt i all_flags)
-      where
-        at : both_at flags i ≤ 1
-        at = larger_at (eqb (i % row_flags) 0) (leb firm_flags (i % row_flags))
-          where
-            larger_at : (a b : Bool) → cond a (get_or flags i 0) (cond b (get_or flags i 0) (max (get_or flags i 0) (get_or flags (i + speakers) 0))) ≤ 1
-            larger_at true b = bits i
-            larger_at false true = bits i
-            larger_at false false = larger_cases (λ r. r ≤ 1) (get_or flags i 0) (get_or flags (i + speakers) 0) (λ _. bits (i + speakers)) (λ _. bits i)
-
-        go : Dec (i < all_flags) → get_or (both_flags flags) i 0 ≤ 1
-        go (yes l) = subst (λ (n : ℕ). n ≤ 1) (sym (both_at_lem i l)) at
-        go (no d) = let e = get_or-eq_default (both_flags flags) 0 {n = i} (omega (arith, both_length)) in omega arith
-
-    pub both_one : (g : ℕ) → g < grants → (p : Prin) → p.0 < speakers → (flag (both_flags flags) (Issued p) g ≡ 1) ↔ ((flag flags (Issued p) g ≡ 1) ⊎ (flag flags (Provisional p) g ≡ 1))
-    both_one g l p k = (
-      λ e. ⊎_elim (λ n. inl (one (Issued p) n)) (λ n. inr (one (Provisional p) n)) ((both_set g l p k).0 (λ z. absurd (omega arith))),
-      λ w.
-          let n = (both_set g l p k).1 (⊎_elim (λ e. inl (λ z. absurd (omega arith))) (λ e. inr (λ z. absurd (omega arith))) w) in
-          let b = both_bits (flag_place (Issued p) g) in
-          nonzero (flag (both_flags flags) (Issued p) g) b n,
-    )
-      where
-        nonzero : (n : ℕ) → n ≤ 1 → (n ≡ 0 → ⊥) → n ≡ 1
-        nonzero n b d = go (ℕ_discrete n 0)
-          where
-            go : Dec (n ≡ 0) → n ≡ 1
-            go (yes e) = absurd (d e)
-            go (no z) = omega arith
-
-        one : (by : Status) → (flag flags by g ≡ 0 → ⊥) → flag flags by g ≡ 1
-        one by d = nonzero (flag flags by g) (bits (flag_place by g)) d
-
-  -- rows without flags have none then
-  pub both_zero : (n : ℕ) → ((i : ℕ) → row_flags * n ≤ i → get_or flags i 0 ≡ 0) → (i : ℕ) → row_flags * n ≤ i → get_or (both_flags flags) i 0 ≡ 0
-  both_zero n zero_from i l = go (dec_lt i all_flags)
-    where
-      cases : (a b : Bool) → cond a (get_or flags i 0) (cond b (get_or flags i 0) (max (get_or flags i 0) (get_or flags (i + speakers) 0))) ≡ 0
-      cases true b = zero_from i l
-      cases false true = zero_from i l
-      cases false false = larger_cases (λ r. r ≡ 0) (get_or flags i 0) (get_or flags (i + speakers) 0) (λ _. zero_from (i + speakers) (omega arith)) (λ _. zero_from i l)
-
-      go : Dec (i < all_flags) → get_or (both_flags flags) i 0 ≡ 0
-      go (yes k) = both_at_lem i k ∙ cases (eqb (i % row_flags) 0) (leb firm_flags (i % row_flags))
-      go (no d) = get_or-eq_default (both_flags flags) 0 {n = i} (omega (arith, both_length))
 
   -- where nothing is provisional they are the flags themselves
   pub both_firm : length flags ≡ all_flags → ((p : Prin) (g : ℕ) → p.0 < speakers → g < grants → flag flags (Provisional p) g ≡ 0) → both_flags flags ≡ flags

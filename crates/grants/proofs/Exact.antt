@@ -49,10 +49,6 @@ module _ (left : ℕ) (s : List ℕ) (at : ℕ) where
       let h = spelled_starts x (concl_some c) in
       exactly s at (written_concl c) n (omega arith) x
 
-  -- so are conditions, which may be none, from a place within s on
-  pub conds_exact : (v : Scope) (k : ℕ) (cs : Conds) (n : ℕ) → at ≤ length s → read_conds (read_grant left s) v s k at ≡ got cs n → Exactly s at (written_conds cs) n
-  conds_exact v k cs n h e = exactly s at (written_conds cs) n h (conds_found left s (read_grant left s) (grant_found left s) v k at cs n e).spelled
-
 module _ (left : ℕ) (x y : List ℕ) where
   -- reading a grant that was written, wherever it stands, gives it back
   pub written_read : (g : Grant) → Allowed g → depth g ≤ left → read_grant left (x ++ (written g ++ y)) (length x) ≡ got g (length x + length (written g))
@@ -64,10 +60,3 @@ module _ (left : ℕ) (x y : List ℕ) where
   concl_read v c a d =
       let s = x ++ (written_concl c ++ y) in
       concl_reads left s (read_grant left s) (grant_reads left s) v c (length x) (length x + length (written_concl c)) a d (between x (written_concl c) y)
-
-  -- so with conditions
-  pub conds_read : (v : Scope) (cs : Conds) → AllowedConds v.prins v.res cs → depth_conds cs ≤ left →
-      read_conds (read_grant left (x ++ (written_conds cs ++ y))) v (x ++ (written_conds cs ++ y)) (how_many cs) (length x) ≡ got cs (length x + length (written_conds cs))
-  conds_read v cs a d =
-      let s = x ++ (written_conds cs ++ y) in
-      conds_reads left s (read_grant left s) (grant_reads left s) v cs (length x) (length x + length (written_conds cs)) a d (between x (written_conds cs) y)

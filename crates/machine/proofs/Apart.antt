@@ -15,9 +15,6 @@ use Rattle.machine.proofs.Sets.{entry_dec, insert_other, insert_present, delete_
 abbrev pub Apart : List Entry → Type 0
 Apart E = (p : Prin) (g : Grant) → member (entry (Issued p) g) E ≡ true → member (entry (Provisional p) g) E ≡ true → ⊥
 
-pub start_apart : Apart []
-start_apart p g h k = member_none (entry (Issued p) g) h
-
 -- what is deleted is fewer
 pub delete_member : (x z : Entry) (E : List Entry) → member z (delete x E) ≡ true → member z E ≡ true
 delete_member x z E h = go (entry_dec z x)

@@ -44,10 +44,6 @@ one_small (Previewed c) = omega arith
 one_small (Refused k) = omega arith
 
 module _ (m k : List ℕ) (p : ℕ) (x : PackRight) where
-  -- no pack yet
-  pub word_none : WordFrom m k p x packs 0 0
-  word_none = record { bits = λ j l. absurd (not-suc-le-zero l); size = omega arith }
-
   -- one pack more, before the others
   word_more : (n u w b : ℕ) → WordFrom m k p x (suc n) u w → b ≡ pack_bit m k p x n → WordFrom m k p x n (suc u) (2 * w + b)
   word_more n u w b W e = record { bits = at; size = omega (arith, W.size, pow-succ' 2 u, small) }
@@ -66,13 +62,6 @@ module _ (m k : List ℕ) (p : ℕ) (x : PackRight) where
         let r : suc (packs - n) ≡ packs - (n - 1) = omega arith in
         subst (λ (u : ℕ). WordFrom m k p x (n - 1) u (2 * w + b)) r
         (word_more (n - 1) (packs - n) w b (subst (λ (i : ℕ). WordFrom m k p x i (packs - n) w) q W) e)
-
-    -- there is room for it
-    pub word_room : 2 * w + 1 < 4294967296
-    word_room = let u : packs - n ≤ 31 = omega arith in omega (arith, W.size, pow_mono u)
-
-  pub word_whole : (n w : ℕ) → n ≡ 0 → WordFrom m k p x n (packs - n) w → WordOf m k p x w
-  word_whole n w e W = subst (λ (i : ℕ). WordFrom m k p x i (packs - i) w) e W
 
   -- the bit of each pack
   pub word_bit : (w : ℕ) → WordOf m k p x w → (n : ℕ) → n < packs → bit w n ≡ pack_bit m k p x n

@@ -105,17 +105,6 @@ module _ {A : Type 0} where
     some_of (b ∷ l) a h (inl e) = inl (subst P (sym e) h)
     some_of (b ∷ l) a h (inr m) = inr (some_of l a h m)
 
-  -- by place
-  some_place : (d : A) (l : List A) (a : A) → Some (λ b. b ≡ a) l → (i : ℕ) × (i < length l) × (get_or l i d ≡ a)
-  some_place d [] a h = absurd h
-  some_place d (b ∷ l) a (inl e) = (0, omega arith, e)
-  some_place d (b ∷ l) a (inr h) = let w = some_place d l a h in let k = w.1 in (suc w.0, omega arith, w.2)
-
-  place_some : (d : A) (l : List A) (i : ℕ) → i < length l → Some (λ b. b ≡ get_or l i d) l
-  place_some d [] i k = absurd (not-suc-le-zero k)
-  place_some d (b ∷ l) zero k = inl refl
-  place_some d (b ∷ l) (suc i) k = inr (place_some d l i (le_of_suc-le-suc k))
-
 -- A grant gives e under a closed substitution, and what is asked holds of its conditions.
 pub record Given (f : Condition → Bool) (r : Row) (e : ℕ) : Type 0 where
   pub x : ℕ

@@ -15,14 +15,6 @@ pub test_decides : {A : Type 0} (r : Bool) → (r ≡ true → A) → (A → r �
 test_decides true f g = f refl
 test_decides false f g = λ x. no_true (g x)
 
--- A comparison decides what holds where it does, and only there.
-pub lt_decides : {A : Type 0} (a b : ℕ) → (a < b → A) → (A → a < b) → Decides (ltb a b) A
-lt_decides {A} a b f g = go (ltb a b) refl
-  where
-    go : (r : Bool) → ltb a b ≡ r → Decides r A
-    go true q = f (ltb-true a b q)
-    go false q = λ x. let l = ltb-false a b q in let h = g x in absurd (omega arith)
-
 pub eq_decides : {A : Type 0} (a b : ℕ) → (a ≡ b → A) → (A → a ≡ b) → Decides (eqb a b) A
 eq_decides {A} a b f g = go (eqb a b) refl
   where

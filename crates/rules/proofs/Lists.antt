@@ -40,15 +40,6 @@ module _ {A : Type 0} where
     some_each (suc n) f h =
         ⊎_elim (λ u. let w = some_each n f u in (w.0, omega (arith, w.1), w.2)) (λ u. (n, le_refl (suc n), u)) (some_join (each n f) (f n) h)
 
-    pub some_dec : ((x : A) → Dec (P x)) → (xs : List A) → Dec (Some P xs)
-    some_dec d [] = no (λ h. h)
-    some_dec d (x ∷ xs) = go (d x) (some_dec d xs)
-      where
-        go : Dec (P x) → Dec (Some P xs) → Dec (Some P (x ∷ xs))
-        go (yes h) r = yes (inl h)
-        go (no f) (yes h) = yes (inr h)
-        go (no f) (no g) = no (λ h. ⊎_elim f g h)
-
     pub all_join : (xs ys : List A) → All P xs → All P ys → All P (xs ++ ys)
     all_join [] ys h k = k
     all_join (x ∷ xs) ys h k = (h.0, all_join xs ys h.1 k)

@@ -21,11 +21,6 @@ firm_high Trusted f = omega arith
 firm_high (Issued p) f = omega arith
 firm_high (Provisional p) f = absurd f
 
-pub firm_range : (by : Status) → FirmRange by → StatusRange by
-firm_range Trusted f = tt
-firm_range (Issued p) f = f
-firm_range (Provisional p) f = absurd f
-
 -- a firm flag is one status's, whether the other is in form or not
 pub firm_by : (by by' : Status) → FirmRange by' → flag_of by ≡ flag_of by' → by ≡ by'
 firm_by Trusted Trusted f e = refl
