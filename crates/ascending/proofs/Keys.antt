@@ -18,7 +18,7 @@ use Rattle.sorts.specs.RowForm.{PrinForm, PackForm, ResForm, ConclForm, CondForm
 use Rattle.canon.specs.Canon.{and_then}
 use Rattle.canon.specs.RowOrder.{kind_res, res_by, concl_by, cond_by}
 use Rattle.canon.proofs.Order.{and_then_eq, and_then_assoc, compare_eq, lt_compare}
-use Rattle.rowwords.specs.Words.{res_key, res_inner, concl_key, concl_inner, concl_word, cond_key, cond_word}
+use Rattle.rows.specs.Words.{res_key, res_inner, concl_key, concl_inner, concl_word, cond_key, cond_word}
 use Rattle.ascending.specs.Inner.Words.{by_word}
 use Rattle.ascending.proofs.Comparing.{gt_compare, packed, both_eq, by_parts, counted, counted_at, counted_left, counted_right}
 

@@ -8,7 +8,7 @@ use lib.Seq.{get_or-set_same, get_or-set_other}
 use Rattle.sorts.specs.declared.Row.{Row}
 use Rattle.sorts.specs.Blank.{no_row}
 use Rattle.rows.proofs.Deciding.{each_more}
-use Rattle.rowwords.specs.Words.{row_word}
+use Rattle.rows.specs.Words.{row_word}
 use Rattle.ascending.specs.Inner.Words.{word}
 
 -- the words of the first n rows

@@ -28,7 +28,7 @@ use Rattle.canon.proofs.Order.{and_then_eq, and_then_assoc, compare_refl, compar
 use Rattle.canon.proofs.Compare.{when_eq, cmp_refl, cmp_eq}
 use Rattle.canon.proofs.RowOrder.{row_by_lem, row_form, form_row}
 use Rattle.canon.specs.CanonicalRows.{CanonicalRows}
-use Rattle.rowwords.specs.Words.{concl_word, concl_inner, cond_key, cond_word, header_word, row_word}
+use Rattle.rows.specs.Words.{concl_word, concl_inner, cond_key, cond_word, header_word, row_word}
 use Rattle.ascending.specs.Inner.Words.{word, Laid, by_word, Told, NextAbove, KeyBelow, KeysAscend}
 use Rattle.ascending.proofs.Comparing.{packed, skip, decided, both_eq, word_inner, by_parts, key_below, counted, counted_at, counted_left, counted_right, counted_same}
 use Rattle.ascending.proofs.Keys.{concl_inner_lem, concl_words, cond_words, cond_apart}

@@ -12,7 +12,7 @@ ghost use Rattle.canon.specs.CanonicalRows.{CanonicalRows};
 ghost use Rattle.ascending.specs.Inner.Words.{Laid, First, Inside, Told, NextAbove, KeyBelow, KeysAscend};
 
 use rows::Table;
-use rowwords::{INNER, WORDS, cond_word, row_words};
+use rows::rowwords::{INNER, WORDS, cond_word, row_words};
 use sorts::{Cond, Row};
 
 // The first word in which one row differs from another; the last where no other does.

@@ -21,23 +21,23 @@ use Rattle.rows.proofs.Bytes.{no_true}
 use Rattle.rows.proofs.Place.{Distinct, has_lt}
 use Rattle.rows.proofs.Shown.{form_shown, out_length}
 use Rattle.rows.proofs.Appended.{Ext, ext_refl, ext_length, number_ext, concl_more}
-use Rattle.ranges.specs.Bytes.{Outcome, got, refused}
+use Rattle.frames.specs.Bytes.{Outcome, got, refused}
 use Rattle.frames.specs.Frames.{extent}
-use Rattle.contents.specs.Records.{Record, enter, remove, confirm, preview, query}
+use Rattle.reader.specs.Contents.{Record, enter, remove, confirm, preview, query}
 use Rattle.reader.specs.Records.{read_canonical}
-use Rattle.contents.specs.Requests.{fits, found_of, numbered_by}
+use Rattle.reader.specs.Found.{fits, found_of, numbered_by}
 use Rattle.reader.specs.Requests.{Reads}
-use Rattle.contents.specs.declared.Request.{Request}
-use Rattle.contents.specs.declared.Request.TheVariants.{Enter, Remove, Confirm, Preview, Query}
-use Rattle.contents.specs.declared.Reading.{Reading}
+use Rattle.reader.specs.declared.contents.Request.{Request}
+use Rattle.reader.specs.declared.contents.Request.TheVariants.{Enter, Remove, Confirm, Preview, Query}
+use Rattle.reader.specs.declared.contents.Reading.{Reading}
 use Rattle.exact.specs.Writing.{AllowedRecord}
 use Rattle.canon.specs.Canon.{Canonical, CanonicalConcl}
 use Rattle.canon.proofs.Numbers.{AllInForm, rows_all, all_rows, number_in_form, concl_in_form}
 use Rattle.exact.proofs.CanonicalRecords.{canonical_exact, canonical_extent}
 use Rattle.rules.proofs.Standing.{standing_length, standing_bits}
-use Rattle.flags.specs.Both.{both_flags}
-use Rattle.flags.specs.Changes.{is_set, entered_flags, there_flags, removed_flags}
-use Rattle.flags.proofs.Changing.{FlagsFit, entered_fit, removed_fit}
+use Rattle.bookform.specs.Both.{both_flags}
+use Rattle.bookform.specs.Changes.{is_set, entered_flags, there_flags, removed_flags}
+use Rattle.bookform.proofs.flags.Changing.{FlagsFit, entered_fit, removed_fit}
 use Rattle.machine.specs.Machine.{State, Entry, Step, changes, previews, asks, refuses, refuse, previewed, change, act, acted, step, stands, entered, there, removed}
 use Rattle.machine.proofs.Apart.{Apart, entered_apart, removed_apart}
 use Rattle.machine.proofs.Flags.{Shown, entered_shown, removed_shown, there_shown, set_shown, apart_flags, flags_apart}
@@ -45,9 +45,9 @@ use Rattle.bookform.specs.declared.Book.{Book}
 use Rattle.bookform.specs.Books.{BookForm}
 use Rattle.book.specs.Shows.{Shows}
 use Rattle.book.specs.Calls.{answer_of, marks_after, second_after, preview_after, Follows}
-use Rattle.renewing.specs.Inner.Buffers.{firm_marks, both_marks}
-use Rattle.answer.specs.Inner.Answering.{refused_with}
-use Rattle.revising.specs.Inner.Revising.{changed_to, previewed_by, entered_book, removed_book}
+use Rattle.requests.specs.Inner.Buffers.{firm_marks, both_marks}
+use Rattle.bookform.specs.Inner.Answering.{refused_with}
+use Rattle.requests.specs.Inner.Revising.{changed_to, previewed_by, entered_book, removed_book}
 use Rattle.requests.specs.Inner.Apply.{answered, applied_to, marks_applied_to, preview_applied_to, done, applied, marks_applied, preview_applied, FoundFits, Ready}
 use Rattle.book.proofs.Showing.{shown_more, shown_book}
 use Rattle.book.proofs.Forms.{table_rows, number_has, found_fits, firm_status}

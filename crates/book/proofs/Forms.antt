@@ -27,12 +27,12 @@ use Rattle.rows.specs.Form.{concl_of, no_grant, TableForm}
 use Rattle.rows.specs.Allowed.{AllowedConcl}
 use Rattle.rows.proofs.Place.{has_in, has_lt}
 use Rattle.rows.proofs.Shown.{length_more}
-use Rattle.ranges.specs.Bytes.{Outcome, got, refused}
-use Rattle.contents.specs.Records.{Record, enter, remove, confirm, preview, query}
+use Rattle.frames.specs.Bytes.{Outcome, got, refused}
+use Rattle.reader.specs.Contents.{Record, enter, remove, confirm, preview, query}
 use Rattle.reader.specs.Records.{read_canonical}
-use Rattle.contents.specs.Requests.{fits, found_of}
-use Rattle.contents.specs.declared.Request.{Request}
-use Rattle.contents.specs.declared.Request.TheVariants.{Enter, Remove, Confirm, Preview, Query}
+use Rattle.reader.specs.Found.{fits, found_of}
+use Rattle.reader.specs.declared.contents.Request.{Request}
+use Rattle.reader.specs.declared.contents.Request.TheVariants.{Enter, Remove, Confirm, Preview, Query}
 use Rattle.exact.specs.Writing.{AllowedRecord}
 use Rattle.exact.proofs.CanonicalRecords.{canonical_exact}
 use Rattle.rules.specs.Rules.{RowsForm}

@@ -7,17 +7,17 @@ use mathlib.Core.Logic.{inl, inr}
 use Prim.Native.Nat.{ℕ}
 use Rattle.std.specs.Prelude.{Result, Ok, Err}
 use Rattle.rows.specs.declared.Table.{Table}
-use Rattle.contents.specs.Requests.{number_found}
+use Rattle.reader.specs.Found.{number_found}
 use Rattle.reader.specs.Requests.{Reads}
-use Rattle.contents.specs.declared.Request.{Request}
-use Rattle.contents.specs.declared.Reading.{Reading}
+use Rattle.reader.specs.declared.contents.Request.{Request}
+use Rattle.reader.specs.declared.contents.Reading.{Reading}
 use Rattle.machine.specs.Machine.{step}
 use Rattle.bookform.specs.declared.Book.{Book}
-use Rattle.answer.specs.declared.Answered.{Answered}
+use Rattle.bookform.specs.declared.answer.Answered.{Answered}
 use Rattle.bookform.specs.Books.{Lent}
 use Rattle.book.specs.Calls.{Follows, Called}
-use Rattle.renewing.specs.Inner.Buffers.{firm_marks, both_marks}
-use Rattle.answer.specs.Inner.Answering.{refused_with}
+use Rattle.requests.specs.Inner.Buffers.{firm_marks, both_marks}
+use Rattle.bookform.specs.Inner.Answering.{refused_with}
 use Rattle.requests.specs.Inner.Apply.{applied_to, applied, marks_applied, preview_applied}
 use Rattle.book.proofs.Following.{follows}
 use Rattle.sorts.specs.declared.Refusal.{Refusal}

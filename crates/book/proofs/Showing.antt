@@ -17,7 +17,7 @@ use Rattle.rows.proofs.Place.{Distinct, place_at, has_in, has_lt}
 use Rattle.rows.proofs.Appended.{Ext, ext_length}
 use Rattle.bookform.specs.declared.Book.{Book}
 use Rattle.machine.specs.Machine.{State, Entry, stands}
-use Rattle.flags.specs.Changes.{bit}
+use Rattle.bookform.specs.Changes.{bit}
 use Rattle.book.specs.Shows.{Shows}
 use Rattle.machine.proofs.Flags.{Shown}
 

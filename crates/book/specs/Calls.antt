@@ -7,13 +7,13 @@ use Rattle.sorts.specs.declared.Refusal.{Refusal}
 use Rattle.rows.specs.Written.{Grant}
 use Rattle.rows.specs.Numbering.{place}
 use Rattle.rules.specs.Standing.{standing}
-use Rattle.flags.specs.Both.{both_flags}
-use Rattle.flags.specs.Changes.{removed_flags}
+use Rattle.bookform.specs.Both.{both_flags}
+use Rattle.bookform.specs.Changes.{removed_flags}
 use Rattle.bookform.specs.declared.Book.{Book}
-use Rattle.answer.specs.declared.Answer.{Answer}
-use Rattle.answer.specs.declared.Answer.TheVariants.{Changed, Previewed, Refused}
-use Rattle.answer.specs.declared.Answered.{Answered}
-use Rattle.answer.specs.Answers.{answer_at}
+use Rattle.bookform.specs.declared.answer.Answer.{Answer}
+use Rattle.bookform.specs.declared.answer.Answer.TheVariants.{Changed, Previewed, Refused}
+use Rattle.bookform.specs.declared.answer.Answered.{Answered}
+use Rattle.bookform.specs.Answers.{answer_at}
 use Rattle.machine.specs.Machine.{State, Step, Verdict, changes, previews, asks, refuses, step}
 use Rattle.bookform.specs.Books.{BookForm, Lent}
 use Rattle.book.specs.Shows.{Shows}

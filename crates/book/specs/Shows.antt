@@ -5,7 +5,7 @@ use Rattle.sorts.specs.Flags.{StatusRange, flag}
 use Rattle.rows.specs.Written.{Grant}
 use Rattle.rows.specs.Numbering.{has}
 use Rattle.rows.specs.Form.{rows_out}
-use Rattle.flags.specs.Changes.{bit}
+use Rattle.bookform.specs.Changes.{bit}
 use Rattle.bookform.specs.declared.Book.{Book}
 use Rattle.machine.specs.Machine.{State, stands}
 use Rattle.machine.specs.Closed.{grant_at}

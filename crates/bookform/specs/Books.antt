@@ -4,7 +4,7 @@ use Rattle.sorts.specs.Blank.{blank_row}
 use Rattle.sorts.specs.Numbers.{grants, all_marks}
 use Rattle.sorts.specs.Flags.{all_flags}
 use Rattle.rows.specs.Form.{TableForm}
-use Rattle.flags.specs.Changes.{Unflagged, FlagsApart}
+use Rattle.bookform.specs.Changes.{Unflagged, FlagsApart}
 use Rattle.canon.specs.CanonicalRows.{CanonicalRows}
 use Rattle.bookform.specs.declared.Book.{Book}
 

@@ -1,11 +1,14 @@
 // A book, a fresh one, and whether a book that is lent is in form.
 #![tactic(auto)]
 
+pub mod answer;
+pub mod flags;
+
 ghost use Rattle.std.specs.Prelude.{◌≡◌};
 ghost use Rattle.sorts.specs.Decides.{Decides};
 ghost use Rattle.bookform.specs.Books.{fresh_book, MarksForm, BookForm};
 
-use flags::changes;
+use crate::flags::changes;
 use marks::bits;
 use rows::Table;
 use sorts::{Number, Row, Status};

@@ -6,8 +6,8 @@ use native.Mathlib.Omega.{arith}
 use lib.ListN.{length, drop, replicate, length-replicate}
 use Rattle.sorts.specs.Numbers.{depths}
 use Rattle.rows.specs.Written.{Grant, Concl, written, written_concl}
-use Rattle.ranges.specs.declared.Scope.{Scope}
-use Rattle.ranges.specs.Bytes.{got}
+use Rattle.frames.specs.declared.ranges.Scope.{Scope}
+use Rattle.frames.specs.Bytes.{got}
 use Rattle.grants.specs.Grants.{read_grant, read_concl}
 use Rattle.canon.specs.Canon.{canon, canon_concl}
 use Rattle.std.specs.Prelude.{Option, Some, None}

@@ -14,8 +14,8 @@ use Rattle.rows.proofs.Bytes.{no_true}
 use Rattle.grants.proofs.Exact.{concl_exact}
 use Rattle.rows.specs.declared.Numbering.{Numbering}
 use Rattle.rows.proofs.Entering.{Good}
-use Rattle.ranges.specs.declared.Scope.{Scope}
-use Rattle.ranges.specs.Bytes.{Outcome, got, refused, and_then}
+use Rattle.frames.specs.declared.ranges.Scope.{Scope}
+use Rattle.frames.specs.Bytes.{Outcome, got, refused, and_then}
 use Rattle.grants.specs.Grants.{read_grant, read_concl}
 use Rattle.grants.specs.Inner.OnePass.{Numbered, over, onward, num_grant}
 use Rattle.grants.proofs.Steps.{at_got, at_refused}

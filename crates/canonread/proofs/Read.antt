@@ -6,8 +6,8 @@ use native.Mathlib.Omega.{arith}
 use lib.ListN.{length, take, drop, take-append-drop}
 use Rattle.rows.specs.Written.{Grant, Concl, written, written_concl}
 use Rattle.rows.specs.Form.{depth}
-use Rattle.ranges.specs.declared.Scope.{Scope}
-use Rattle.ranges.specs.Bytes.{got}
+use Rattle.frames.specs.declared.ranges.Scope.{Scope}
+use Rattle.frames.specs.Bytes.{got}
 use Rattle.grants.specs.Grants.{read_grant, read_concl}
 use Rattle.grants.proofs.Exact.{read_exact, concl_exact, written_read, concl_read}
 use Rattle.grants.proofs.Allowed.{read_allowed, concl_allowed}

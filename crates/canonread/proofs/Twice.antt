@@ -9,10 +9,10 @@ use Rattle.std.specs.Result.{IsErrAnd}
 use Rattle.std.proofs.lemmas.Result.{err_from_is_err_and}
 use Rattle.sorts.specs.declared.Refusal.{Refusal}
 use Rattle.rows.specs.declared.Numbering.{Numbering}
-use Rattle.ranges.specs.declared.Scope.{Scope}
-use Rattle.ranges.specs.declared.Cursor.{Cursor}
-use Rattle.ranges.specs.Bytes.{Outcome, got, as_read}
-use Rattle.ranges.proofs.Answers.{was_got, was_refused}
+use Rattle.frames.specs.declared.ranges.Scope.{Scope}
+use Rattle.frames.specs.declared.ranges.Cursor.{Cursor}
+use Rattle.frames.specs.Bytes.{Outcome, got, as_read}
+use Rattle.frames.proofs.ranges.Answers.{was_got, was_refused}
 use Rattle.grants.specs.Inner.OnePass.{Numbered, Matches, over, onward}
 use Rattle.grants.proofs.Steps.{GoesOn, at_got, at_refused}
 use Rattle.canonread.specs.Inner.Again.{again, concl_bytes, holds_grant, num_concl_form, read_concl_whole}

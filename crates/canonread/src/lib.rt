@@ -6,7 +6,8 @@ ghost use Rattle.std.specs.Prelude.{◌≡◌};
 ghost use Rattle.grants.specs.Inner.OnePass.{Matches};
 ghost use Rattle.canonread.specs.Inner.Again.{holds_grant, num_form, num_concl_form};
 
-use ranges::{Cursor, Scope};
+use canonwrite::sorting;
+use frames::ranges::{Cursor, Scope};
 use rows::Numbering;
 use sorts::{Concl, GrantNo, Refusal, Row};
 
@@ -16,7 +17,7 @@ use sorts::{Concl, GrantNo, Refusal, Row};
 fn holds_grant(s: &[u8]) -> bool
     ensures { result ≡ holds_grant s.now }
 {
-    segments::byte_at(s, 0) == 1 && segments::byte_at(s, 2) == 0
+    sorting::byte_at(s, 0) == 1 && sorting::byte_at(s, 2) == 0
 }
 
 // The next two differ in each step: one function for both would take the steps as closures, and be longer. Each cuts what follows the cursor,

@@ -6,7 +6,7 @@ use lib.ListN.{length, take, replicate}
 use Rattle.rows.specs.Written.{written}
 use Rattle.canon.specs.Canon.{order, cond_bytes, order_cond, insert, canon}
 use Rattle.canon.proofs.Examples.{inside1, inside2, editor1, editor2}
-use Rattle.segments.specs.Segments.{seat}
+use Rattle.canonwrite.specs.Segments.{seat}
 use Rattle.canonwrite.specs.Buffer.{put_concl, put_in, put_conds, put_with, put_grant}
 use Rattle.canonwrite.specs.Model.{put_segment, form_concl, form_conds, form_with, form_grant}
 

@@ -14,7 +14,7 @@ use Rattle.rows.specs.Form.{depth, depth_conds, depth_concl, depth_right}
 use Rattle.canon.specs.Canon.{pick, order, cond_bytes, insert, canon, canon_conds, canon_concl, canon_right}
 use Rattle.canonwrite.specs.Model.{put_segment, joined}
 use Rattle.std.specs.Prelude.{Option, Some, None}
-use Rattle.segments.specs.Segments.{part, turn, seat}
+use Rattle.canonwrite.specs.Segments.{part, turn, seat}
 use Rattle.canonwrite.specs.Buffer.{Spot, Kept, seated, put_concl, put_in, put_conds, put_with, put_grant}
 use Rattle.canon.proofs.Size.{larger_max, concl_length}
 use Rattle.canonwrite.proofs.Buffer.{below, there, put_turned, put_left_out, joined_append}

@@ -8,11 +8,11 @@ use lib.Seq.{length-take-le}
 use Rattle.std.specs.Prelude.{Some, None, sum}
 use Rattle.canonwrite.specs.declared.Place.{Place}
 use Rattle.canonwrite.specs.declared.Segments.{Segments}
-use Rattle.segments.specs.Segments.{part, turn, seat}
+use Rattle.canonwrite.specs.Segments.{part, turn, seat}
 use Rattle.canonwrite.specs.Buffer.{Kept, seated, put_in}
 use Rattle.canonwrite.specs.Inner.Writing.{spot_of, kept_of, SegmentsFit}
 use Rattle.std.proofs.lemmas.List.Sums.{sum_by-take-le}
-use Rattle.segments.proofs.Seats.{seat_fits, sum_more, length_put}
+use Rattle.canonwrite.proofs.sorting.Seats.{seat_fits, sum_more, length_put}
 
 kept_path : (o o' : List ℕ) (at to : ℕ) (l l' : List ℕ) → o ≡ o' → l ≡ l' → ◌≡◌ {A = Kept} (record { out = o; at = at; to = to; lens = l }) (record { out = o'; at = at; to = to; lens = l' })
 kept_path o o' at to l l' e f = λ i. record { out = e i; at = at; to = to; lens = f i }

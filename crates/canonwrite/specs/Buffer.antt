@@ -2,7 +2,7 @@
 -- what stands behind is of no account.
 use Rattle.std.specs.Prelude.{ℕ, zero, suc, ◌+◌, ◌-◌, min, cond, ◌&&◌, Option, Some, None, List, [], ◌∷◌, ◌++◌, length, get_or, set, take, drop, eqb}
 use Rattle.sorts.specs.Numbers.{conditions}
-use Rattle.segments.specs.Segments.{part, turn, seat}
+use Rattle.canonwrite.specs.Segments.{part, turn, seat}
 
 pub record Spot : Type 0 where
   pub out : List ℕ

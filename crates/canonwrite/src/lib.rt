@@ -2,6 +2,8 @@
 // ascend, and a new one, written behind them, is left out or turned into its place.
 #![tactic(auto)]
 
+pub mod sorting;
+
 ghost use Rattle.std.specs.Prelude.{◌≡◌, ◌+◌, ◌≤◌, ◌<◌, length, take};
 ghost use Rattle.sorts.specs.Numbers.{conditions, depths};
 ghost use Rattle.canonwrite.specs.Buffer.{copy_three, put_in, put_concl, put_conds, put_grant};
@@ -38,9 +40,9 @@ fn copy_three(s: &[u8], p: Place, out: &mut [u8])
     requires { (p.at + 3 ≤ 65536) × (p.to + 3 ≤ length out.old) }
     ensures { out.new ≡ copy_three s.now p.at out.old p.to }
 {
-    segments::put(out, p.to, segments::byte_at(s, p.at));
-    segments::put(out, p.to + 1, segments::byte_at(s, p.at + 1));
-    segments::put(out, p.to + 2, segments::byte_at(s, p.at + 2));
+    sorting::put(out, p.to, sorting::byte_at(s, p.at));
+    sorting::put(out, p.to + 1, sorting::byte_at(s, p.at + 1));
+    sorting::put(out, p.to + 2, sorting::byte_at(s, p.at + 2));
 }
 
 // The segment written behind those from b on is left out, or turned into its place.
@@ -49,15 +51,15 @@ fn put_in(b: usize, was: Segments, one: Place, out: &mut [u8]) -> Segments
     ensures done { kept_of out.new result ≡ put_in b was.to (take was.count was.lens) (spot_of out.old one) }
     ensures fits { SegmentsFit b result × (result.count ≤ was.count + 1) × (was.to ≤ result.to) × (result.to ≤ one.to) × (result.at ≡ one.at) }
 {
-    match segments::seek(out, b, &was.lens[..was.count], was.to, one.to) {
+    match sorting::seek(out, b, &was.lens[..was.count], was.to, one.to) {
         None => Segments { at: one.at, ..was },
         Some((k, p)) => {
-            segments::turn(out, p, was.to, one.to);
+            sorting::turn(out, p, was.to, one.to);
             Segments {
                 at: one.at,
                 to: one.to,
                 count: was.count + 1,
-                lens: segments::insert(was.lens, k, one.to - was.to),
+                lens: sorting::insert(was.lens, k, one.to - was.to),
             }
         }
     }
@@ -71,8 +73,8 @@ fn put_concl(s: &[u8], p: Place, below: u8, out: &mut [u8]) -> Place
     ensures fits { (p.to ≤ result.to) × (result.to ≤ p.to + 3 + most below) × (result.at ≤ p.at + 3 + most below) }
 {
     copy_three(s, p, out);
-    let kind = segments::byte_at(s, p.at);
-    let form = segments::byte_at(s, p.at + 2);
+    let kind = sorting::byte_at(s, p.at);
+    let form = sorting::byte_at(s, p.at + 2);
     let next = Place {
         at: p.at + 3,
         to: p.to + 3,
@@ -93,7 +95,7 @@ fn put_conds(s: &[u8], below: u8, b: usize, k: u8, was: Segments, out: &mut [u8]
 {
     let mut kept = was;
     for i in 0..k {
-        segments::put(out, kept.to, segments::byte_at(s, kept.at));
+        sorting::put(out, kept.to, sorting::byte_at(s, kept.at));
         let next = Place {
             at: kept.at + 1,
             to: kept.to + 1,
@@ -117,7 +119,7 @@ fn put_grant(s: &[u8], p: Place, left: u8, out: &mut [u8]) -> Place
     }
     let below = left - 1;
     copy_three(s, p, out);
-    let k = segments::byte_at(s, p.at + 2).min(Row::CONDITIONS as u8);
+    let k = sorting::byte_at(s, p.at + 2).min(Row::CONDITIONS as u8);
     let none = Segments {
         at: p.at + 3,
         to: p.to + 3,
@@ -125,7 +127,7 @@ fn put_grant(s: &[u8], p: Place, left: u8, out: &mut [u8]) -> Place
         lens: [0; Row::CONDITIONS],
     };
     let cs = put_conds(s, below, p.to + 3, k, none, out);
-    segments::put(out, p.to + 2, cs.count as u8);
+    sorting::put(out, p.to + 2, cs.count as u8);
     let head = Place {
         at: cs.at,
         to: cs.to,

@@ -15,19 +15,19 @@ use Rattle.sorts.specs.declared.Refusal.TheVariants as refusal
 use Rattle.rows.specs.Written.{Grant}
 use Rattle.rows.specs.Numbering.{has, number}
 use Rattle.rows.proofs.Known.{numbered_known}
-use Rattle.ranges.specs.Bytes.{got}
+use Rattle.frames.specs.Bytes.{got}
 use Rattle.frames.specs.Frames.{extent}
-use Rattle.contents.specs.Records.{enter}
+use Rattle.reader.specs.Contents.{enter}
 use Rattle.reader.specs.Records.{read_canonical}
-use Rattle.contents.specs.Requests.{fits}
+use Rattle.reader.specs.Found.{fits}
 use Rattle.machine.specs.Machine.{State, Verdict, Step, changes, change, refuse, act, acted, step, feed, entered, stands}
 use Rattle.machine.proofs.Apart.{Apart, entered_firm, entered_present}
 use Rattle.machine.proofs.Flags.{flags_apart}
-use Rattle.blocks.specs.Gains.{gains}
+use Rattle.marks.specs.Gains.{gains}
 use Rattle.marks.specs.Counts.{Statements, truths, sayings, marks_of, change_of, counts_of}
 use Rattle.bookform.specs.declared.Book.{Book}
-use Rattle.answer.specs.declared.Answer.TheVariants.{Changed}
-use Rattle.answer.specs.declared.Answered.{Answered}
+use Rattle.bookform.specs.declared.answer.Answer.TheVariants.{Changed}
+use Rattle.bookform.specs.declared.answer.Answered.{Answered}
 use Rattle.book.specs.Shows.{Shows}
 use Rattle.book.specs.Calls.{answer_of, Called}
 use Rattle.demands.specs.Worth.{unchanged, no_counts}

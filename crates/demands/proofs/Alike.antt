@@ -16,17 +16,17 @@ use Rattle.sorts.specs.declared.Refusal.TheVariants as refusal
 use Rattle.sorts.specs.declared.Refusal.{Refusal}
 use Rattle.rows.specs.Written.{Grant, perm, issue}
 use Rattle.rows.specs.Numbering.{place, number, number_concl}
-use Rattle.ranges.specs.Bytes.{Outcome, got, refused}
+use Rattle.frames.specs.Bytes.{Outcome, got, refused}
 use Rattle.canon.specs.Canon.{canon, same}
 use Rattle.canon.proofs.Sets.{same_canon}
 use Rattle.frames.specs.Frames.{extent}
-use Rattle.contents.specs.Records.{Record, enter, remove, confirm, preview, query, canon_record}
+use Rattle.reader.specs.Contents.{Record, enter, remove, confirm, preview, query, canon_record}
 use Rattle.reader.specs.Records.{read_record, read_canonical}
-use Rattle.contents.specs.Requests.{fits}
+use Rattle.reader.specs.Found.{fits}
 use Rattle.exact.proofs.CanonicalRecords.{canonical_of}
 use Rattle.bookform.specs.declared.Book.{Book}
-use Rattle.answer.specs.declared.Answer.{Answer}
-use Rattle.answer.specs.declared.Answered.{Answered}
+use Rattle.bookform.specs.declared.answer.Answer.{Answer}
+use Rattle.bookform.specs.declared.answer.Answered.{Answered}
 use Rattle.machine.specs.Machine.{State, Verdict, Step, changes, previews, asks, refuses, refuse, act, acted, step, feed, stands, there}
 use Rattle.bookform.specs.Books.{Lent}
 use Rattle.book.specs.Shows.{Shows}

@@ -11,7 +11,7 @@ use native.Mathlib.Nat.{min-le_left}
 use lib.Dec.{eqb}
 use Rattle.sorts.specs.Numbers.{conclusions}
 use Rattle.rules.specs.Standing.{In, Above, Bits}
-use Rattle.blocks.specs.Gains.{risen, gains}
+use Rattle.marks.specs.Gains.{risen, gains}
 use Rattle.marks.specs.Counts.{Statements, truths, sayings, ones, marks_of}
 
 -- a mark that is 0 or 1 before and after

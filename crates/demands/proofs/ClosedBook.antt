@@ -18,8 +18,8 @@ use Rattle.rules.specs.Rules.{Set, Closed}
 use Rattle.rules.specs.Standing.{In}
 use Rattle.rules.proofs.Ground.{closed_fewer}
 use Rattle.rules.proofs.Standing.{standing_in, standing_out}
-use Rattle.flags.specs.Changes.{bit}
-use Rattle.flags.proofs.Both.{both_trusted, both_set}
+use Rattle.bookform.specs.Changes.{bit}
+use Rattle.bookform.proofs.flags.Both.{both_trusted, both_set}
 use Rattle.machine.specs.Machine.{State, stands}
 use Rattle.machine.specs.Closed.{grant_at, row_at, StandsAs, Licensed, ClosedSet, Stands}
 use Rattle.bookform.specs.declared.Book.{Book}

@@ -17,21 +17,21 @@ use Rattle.sorts.specs.Refusals.{refusal_number}
 use Rattle.rows.specs.Written.{Grant}
 use Rattle.rows.specs.Numbering.{number, number_concl}
 use Rattle.rows.proofs.Bytes.{no_true}
-use Rattle.ranges.specs.Bytes.{Outcome, got, refused}
+use Rattle.frames.specs.Bytes.{Outcome, got, refused}
 use Rattle.frames.specs.Frames.{extent}
-use Rattle.contents.specs.Records.{Record, enter, remove, confirm, preview, query}
+use Rattle.reader.specs.Contents.{Record, enter, remove, confirm, preview, query}
 use Rattle.reader.specs.Records.{read_canonical}
-use Rattle.contents.specs.Requests.{fits}
+use Rattle.reader.specs.Found.{fits}
 use Rattle.bookform.specs.declared.Book.{Book}
 use Rattle.marks.specs.declared.Counts.{Counts}
-use Rattle.answer.specs.declared.Answer.{Answer}
-use Rattle.answer.specs.declared.Answer.TheVariants.{Permitted, Open, NotPermitted, Changed, Previewed, Refused}
-use Rattle.answer.specs.declared.Answered.{Answered}
+use Rattle.bookform.specs.declared.answer.Answer.{Answer}
+use Rattle.bookform.specs.declared.answer.Answer.TheVariants.{Permitted, Open, NotPermitted, Changed, Previewed, Refused}
+use Rattle.bookform.specs.declared.answer.Answered.{Answered}
 use Rattle.machine.specs.Machine.{State, Step, Verdict, changes, previews, asks, refuses, refuse, act, acted, step, stands, there}
 use Rattle.marks.specs.Counts.{Statements, truths, sayings, change_of, counts_of, change_in}
 use Rattle.demands.specs.Worth.{worth}
 use Rattle.bookform.specs.Books.{Lent}
-use Rattle.answer.specs.Answers.{answer_at}
+use Rattle.bookform.specs.Answers.{answer_at}
 use Rattle.book.specs.Calls.{answer_of, marks_after, second_after, preview_after, Follows, Called}
 use Rattle.demands.specs.Demands.{Turned, Answers, Demand1}
 use Rattle.exact.proofs.CanonicalRecords.{canonical_refused}

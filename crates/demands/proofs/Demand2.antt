@@ -13,10 +13,10 @@ use Rattle.machine.specs.Machine.{State, Verdict, asks, start, feed}
 use Rattle.machine.specs.Closed.{ClosedSet, Lacking}
 use Rattle.machine.proofs.Choices.{permitted_none, not_permitted_all, open_both}
 use Rattle.bookform.specs.declared.Book.{Book}
-use Rattle.answer.specs.declared.Answer.{Answer}
-use Rattle.answer.specs.declared.Answer.TheVariants.{Permitted, Open, NotPermitted, Changed, Previewed, Refused}
-use Rattle.answer.specs.declared.Answered.{Answered}
-use Rattle.answer.specs.Answers.{answer_at}
+use Rattle.bookform.specs.declared.answer.Answer.{Answer}
+use Rattle.bookform.specs.declared.answer.Answer.TheVariants.{Permitted, Open, NotPermitted, Changed, Previewed, Refused}
+use Rattle.bookform.specs.declared.answer.Answered.{Answered}
+use Rattle.bookform.specs.Answers.{answer_at}
 use Rattle.book.specs.Calls.{answer_of, marks_after, second_after, Called}
 use Rattle.bookform.specs.Books.{fresh_book, fresh_marks}
 use Rattle.book.specs.Chains.{Call, Chain, records, runs}

@@ -7,15 +7,15 @@ use native.Mathlib.Omega.{arith}
 use lib.ListN.{length, replicate}
 use native.Mathlib.Decide.{ℕ_discrete}
 use Rattle.sorts.specs.Numbers.{all_marks}
-use Rattle.ranges.specs.Bytes.{Outcome, got, refused}
-use Rattle.contents.specs.Records.{Record, enter, remove, confirm, preview, query}
+use Rattle.frames.specs.Bytes.{Outcome, got, refused}
+use Rattle.reader.specs.Contents.{Record, enter, remove, confirm, preview, query}
 use Rattle.reader.specs.Records.{read_canonical}
 use Rattle.rules.specs.Standing.{In}
 use Rattle.machine.specs.Machine.{State, Step, step, feed}
 use Rattle.machine.specs.Closed.{Stands}
 use Rattle.marks.specs.Counts.{Statements, truths, sayings, ones, marks_of}
 use Rattle.bookform.specs.declared.Book.{Book}
-use Rattle.answer.specs.declared.Answered.{Answered}
+use Rattle.bookform.specs.declared.answer.Answered.{Answered}
 use Rattle.book.specs.Calls.{Called}
 use Rattle.bookform.specs.Books.{fresh_book, fresh_marks}
 use Rattle.book.specs.Chains.{Call, Chain, none, then, records, runs}

@@ -14,8 +14,8 @@ use Rattle.bookform.specs.Books.{Lent}
 use Rattle.book.specs.Calls.{Called}
 use Rattle.bookform.specs.Books.{fresh_book, fresh_marks}
 use Rattle.book.specs.Chains.{Call, Chain, none, then, whole, records}
-use Rattle.renewing.specs.Inner.Buffers.{firm_marks, both_marks}
-use Rattle.answer.specs.Inner.Answering.{refused_with}
+use Rattle.requests.specs.Inner.Buffers.{firm_marks, both_marks}
+use Rattle.bookform.specs.Inner.Answering.{refused_with}
 use Rattle.requests.specs.Inner.Apply.{applied, marks_applied, preview_applied}
 use Rattle.book.proofs.Keeping.{called_formed, called_unformed}
 use Rattle.demands.proofs.Reached.{Reached, fresh_reached, reached_after}

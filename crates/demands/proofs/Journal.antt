@@ -8,11 +8,11 @@ use Rattle.sorts.specs.declared.Status.TheVariants.{Trusted}
 use Rattle.sorts.specs.declared.Refusal.TheVariants as refusal
 use Rattle.rows.specs.Written.{Grant, grant, none, property, perm, issue, written, same_bytes, same_written}
 use Rattle.rows.specs.Numbering.{place, has, add, number}
-use Rattle.ranges.specs.Bytes.{byte_at, upto, principal, pack, tag, header}
+use Rattle.frames.specs.Bytes.{byte_at, upto, principal, pack, tag, header}
 use Rattle.grants.specs.Grants.{read_property, read_packed, read_issue, read_concl, read_conds, read_with, read_grant}
 use Rattle.canon.specs.Canon.{canon}
 use Rattle.frames.specs.Frames.{kind_with, read_mark, frame, extent}
-use Rattle.contents.specs.Records.{read_entry, read_licence, read_query, read_content}
+use Rattle.reader.specs.Contents.{read_entry, read_licence, read_query, read_content}
 use Rattle.reader.specs.Records.{read_whole, read_record, read_canonical}
 use Rattle.bookform.specs.declared.Book.{Book}
 use Rattle.machine.specs.Machine.{State, Verdict, changes, asks, refuses, Entry, start, member, insert, delete, act, step, feed}

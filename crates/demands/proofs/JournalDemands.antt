@@ -16,17 +16,17 @@ use Rattle.rows.specs.Written.{Grant, written, same_bytes, same_written}
 use Rattle.rows.specs.Numbering.{place, has, add, number}
 use Rattle.rows.specs.Form.{conds_of, row_of}
 use Rattle.rows.proofs.Bytes.{no_true}
-use Rattle.ranges.specs.Bytes.{Outcome, got, byte_at, upto, principal, pack, tag, header}
+use Rattle.frames.specs.Bytes.{Outcome, got, byte_at, upto, principal, pack, tag, header}
 use Rattle.grants.specs.Grants.{read_property, read_packed, read_issue, read_concl, read_conds, read_with, read_grant}
 use Rattle.canon.specs.Canon.{canon}
 use Rattle.frames.specs.Frames.{kind_with, read_mark, frame, extent}
-use Rattle.contents.specs.Records.{Record, enter, remove, read_entry, read_licence, read_query, read_content}
+use Rattle.reader.specs.Contents.{Record, enter, remove, read_entry, read_licence, read_query, read_content}
 use Rattle.reader.specs.Records.{read_whole, read_record, read_canonical}
 use Rattle.rules.specs.Rules.{res_under, concl_under, granted, issue_mark, Values}
 use Rattle.rules.specs.Standing.{In, Bits}
 use Rattle.rules.proofs.Saturation.{same_marks, zeroes_none}
 use Rattle.bookform.specs.declared.Book.{Book}
-use Rattle.answer.specs.declared.Answer.TheVariants.{Permitted, NotPermitted}
+use Rattle.bookform.specs.declared.answer.Answer.TheVariants.{Permitted, NotPermitted}
 use Rattle.machine.specs.Machine.{State, Entry, Step, asks, start, member, insert, delete, act, step, feed}
 use Rattle.machine.specs.Closed.{Choice, grant_at, row_at, StandsAs, Licensed, ClosedSet, Stands}
 use Rattle.machine.specs.Closed as closed

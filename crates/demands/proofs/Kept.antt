@@ -12,9 +12,9 @@ use Rattle.rows.specs.Written.{Grant, same_written}
 use Rattle.rows.specs.Numbering.{place, has}
 use Rattle.rows.specs.Form.{rows_out}
 use Rattle.rows.proofs.Place.{has_lt}
-use Rattle.ranges.specs.Bytes.{Outcome, got, refused}
+use Rattle.frames.specs.Bytes.{Outcome, got, refused}
 use Rattle.frames.specs.Frames.{extent}
-use Rattle.contents.specs.Records.{Record, enter, remove, confirm, preview, query}
+use Rattle.reader.specs.Contents.{Record, enter, remove, confirm, preview, query}
 use Rattle.reader.specs.Records.{read_canonical}
 use Rattle.rows.proofs.Appended.{Ext, ext_refl, ext_trans}
 use Rattle.bookform.specs.declared.Book.{Book}

@@ -15,11 +15,11 @@ use Rattle.sorts.specs.declared.Refusal.{Refusal}
 use Rattle.rows.specs.Written.{Grant}
 use Rattle.rows.specs.Numbering.{number, number_concl}
 use Rattle.rows.proofs.Appended.{Ext, ext_refl, number_ext, concl_more}
-use Rattle.ranges.specs.Bytes.{Outcome, got, refused}
+use Rattle.frames.specs.Bytes.{Outcome, got, refused}
 use Rattle.frames.specs.Frames.{extent}
-use Rattle.contents.specs.Records.{Record, enter, remove, confirm, preview, query}
+use Rattle.reader.specs.Contents.{Record, enter, remove, confirm, preview, query}
 use Rattle.reader.specs.Records.{read_canonical}
-use Rattle.contents.specs.Requests.{fits}
+use Rattle.reader.specs.Found.{fits}
 use Rattle.machine.specs.Machine.{State, Entry, Verdict, Step, changes, previews, asks, refuses, refuse, act, acted, step, feed, member, insert, delete, entry, entered, there, removed, stands}
 use Rattle.machine.proofs.Apart.{kinds_apart, provisional_issued, delete_member}
 use Rattle.machine.proofs.Sets.{insert_same, insert_other, delete_other, entry_dec}

@@ -18,26 +18,26 @@ use Rattle.rows.specs.declared.Table.{Table}
 use Rattle.rows.specs.Written.{Grant}
 use Rattle.rows.specs.Numbering.{place, has}
 use Rattle.rows.specs.Form.{rows_out}
-use Rattle.ranges.specs.Bytes.{Outcome}
-use Rattle.contents.specs.Records.{Record}
+use Rattle.frames.specs.Bytes.{Outcome}
+use Rattle.reader.specs.Contents.{Record}
 use Rattle.reader.specs.Records.{read_canonical}
-use Rattle.contents.specs.Requests.{found_of}
+use Rattle.reader.specs.Found.{found_of}
 use Rattle.reader.specs.Inner.OneRecord.{num_record}
-use Rattle.contents.specs.declared.Request.{Request}
-use Rattle.contents.specs.declared.Request.TheVariants.{Remove, Preview}
+use Rattle.reader.specs.declared.contents.Request.{Request}
+use Rattle.reader.specs.declared.contents.Request.TheVariants.{Remove, Preview}
 use Rattle.reader.proofs.Record.{reads_within}
 use Rattle.exact.proofs.Content.{withdrawn, same_extent, same_canonical, Previewing, licence, fault, preview_only}
-use Rattle.flags.specs.Changes.{there_flags}
+use Rattle.bookform.specs.Changes.{there_flags}
 use Rattle.marks.specs.declared.Counts.{Counts}
 use Rattle.bookform.specs.declared.Book.{Book}
-use Rattle.answer.specs.declared.Answer.{Answer}
-use Rattle.answer.specs.declared.Answer.TheVariants.{Changed, Previewed, Refused}
-use Rattle.answer.specs.declared.Answered.{Answered}
+use Rattle.bookform.specs.declared.answer.Answer.{Answer}
+use Rattle.bookform.specs.declared.answer.Answer.TheVariants.{Changed, Previewed, Refused}
+use Rattle.bookform.specs.declared.answer.Answered.{Answered}
 use Rattle.bookform.specs.Books.{Lent}
 use Rattle.book.specs.Calls.{Called}
-use Rattle.renewing.specs.Inner.Buffers.{firm_marks}
-use Rattle.answer.specs.Inner.Answering.{refused_with}
-use Rattle.revising.specs.Inner.Revising.{changed_to, previewed_by, removed_book}
+use Rattle.requests.specs.Inner.Buffers.{firm_marks}
+use Rattle.bookform.specs.Inner.Answering.{refused_with}
+use Rattle.requests.specs.Inner.Revising.{changed_to, previewed_by, removed_book}
 use Rattle.requests.specs.Inner.Apply.{answered, applied_to, marks_applied_to, preview_applied_to, done, applied, marks_applied, preview_applied}
 use Rattle.marks.specs.Counts.{Statements, change_in}
 use Rattle.machine.specs.Machine.{State}

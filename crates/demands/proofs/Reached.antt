@@ -22,18 +22,18 @@ use Rattle.rules.specs.Rules.{Closed}
 use Rattle.rules.specs.Standing.{In, Above, standing}
 use Rattle.rules.proofs.Standing.{standing_in, standing_length, standing_bits}
 use Rattle.rules.proofs.Saturation.{same_marks, zeroes_bits, zeroes_none}
-use Rattle.flags.specs.Both.{both_flags}
-use Rattle.flags.proofs.Both.{both_firm}
+use Rattle.bookform.specs.Both.{both_flags}
+use Rattle.bookform.proofs.flags.Both.{both_firm}
 use Rattle.machine.specs.Machine.{State, Step, Verdict, changes, previews, asks, refuses, refuse, start, step, feed, member}
-use Rattle.blocks.specs.Gains.{gains}
+use Rattle.marks.specs.Gains.{gains}
 use Rattle.marks.specs.Counts.{Statements, truths, sayings, ones, marks_of, change_of, counts_of, change_in}
 use Rattle.bookform.specs.declared.Book.{Book}
-use Rattle.answer.specs.declared.Answer.{Answer}
-use Rattle.answer.specs.declared.Answer.TheVariants.{Permitted, Open, NotPermitted, Previewed, Refused}
-use Rattle.answer.specs.declared.Answered.{Answered}
+use Rattle.bookform.specs.declared.answer.Answer.{Answer}
+use Rattle.bookform.specs.declared.answer.Answer.TheVariants.{Permitted, Open, NotPermitted, Previewed, Refused}
+use Rattle.bookform.specs.declared.answer.Answered.{Answered}
 use Rattle.bookform.specs.Books.{MarksForm, BookForm}
 use Rattle.book.specs.Shows.{Shows}
-use Rattle.answer.specs.Answers.{answer_at}
+use Rattle.bookform.specs.Answers.{answer_at}
 use Rattle.book.specs.Calls.{answer_of, marks_after, second_after, preview_after, Follows, Called}
 use Rattle.bookform.specs.Books.{fresh_book, fresh_marks}
 use Rattle.book.proofs.Forms.{table_rows}

@@ -18,7 +18,7 @@ use Rattle.rows.proofs.Place.{has_in}
 use Rattle.rows.proofs.Shown as table
 use Rattle.bookform.specs.declared.Book.{Book}
 use Rattle.machine.specs.Machine.{State, Entry, member}
-use Rattle.flags.specs.Changes.{bit}
+use Rattle.bookform.specs.Changes.{bit}
 use Rattle.bookform.specs.Books.{BookForm}
 use Rattle.book.specs.Shows.{Shows}
 use Rattle.machine.proofs.Sets.{collect, collect_member, member_collect}

@@ -19,8 +19,8 @@ use Rattle.rules.specs.Standing.{In, Above}
 use Rattle.rules.proofs.Ground.{Fewer}
 use Rattle.rules.proofs.Standing.{standing_mono, standing_length, standing_bits}
 use Rattle.rules.proofs.Saturation.{same_marks}
-use Rattle.flags.specs.Both.{both_flags}
-use Rattle.flags.proofs.Both.{both_keeps}
+use Rattle.bookform.specs.Both.{both_flags}
+use Rattle.bookform.proofs.flags.Both.{both_keeps}
 use Rattle.machine.specs.Machine.{State}
 use Rattle.machine.specs.Closed.{grant_at}
 use Rattle.bookform.specs.declared.Book.{Book}

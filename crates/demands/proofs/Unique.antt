@@ -13,7 +13,7 @@ use Rattle.sorts.proofs.Flags.{status_of, status_flag, status_range}
 use Rattle.rows.proofs.Shown.{Shown}
 use Rattle.rows.proofs.Appended.{ext_refl}
 use Rattle.bookform.specs.declared.Book.{Book}
-use Rattle.answer.specs.declared.Answered.{Answered}
+use Rattle.bookform.specs.declared.answer.Answered.{Answered}
 use Rattle.machine.specs.Machine.{State, step}
 use Rattle.bookform.specs.Books.{BookForm, Lent}
 use Rattle.book.specs.Shows.{Shows}

@@ -8,7 +8,7 @@ use Rattle.sorts.specs.declared.Status.{Status}
 use Rattle.sorts.specs.declared.Status.TheVariants.{Trusted, Issued, Provisional}
 use Rattle.rows.specs.Written.{Grant}
 use Rattle.rules.specs.Standing.{standing}
-use Rattle.flags.specs.Both.{both_flags}
+use Rattle.bookform.specs.Both.{both_flags}
 use Rattle.machine.specs.Machine.{Entry, member, entry}
 use Rattle.machine.specs.Closed.{Choice, none, all}
 use Rattle.bookform.specs.declared.Book.{Book}

@@ -1,9 +1,9 @@
 -- Document 02, 3, of whole records: such as differ only in how their grants are written.
 use Rattle.std.specs.Prelude.{ℕ, ◌≡◌, List, [], ◌∷◌}
-use Rattle.ranges.specs.Bytes.{Outcome, got, refused}
-use Rattle.contents.specs.Records.{Record}
+use Rattle.frames.specs.Bytes.{Outcome, got, refused}
+use Rattle.reader.specs.Contents.{Record}
 use Rattle.reader.specs.Records.{read_canonical}
-use Rattle.answer.specs.declared.Answer.{Answer}
+use Rattle.bookform.specs.declared.answer.Answer.{Answer}
 use Rattle.book.specs.Chains.{Call, Fed}
 
 -- What was read but for its length, which is as it was written.

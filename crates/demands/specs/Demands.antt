@@ -3,23 +3,23 @@ use Rattle.std.specs.Prelude.{ℕ, ◌+◌, ◌≤◌, ◌≡◌, false, List, [
 use Rattle.std.proofs.Math.Option.{some}
 use Rattle.rows.specs.Written.{Grant}
 use Rattle.rows.specs.Numbering.{number, number_concl}
-use Rattle.ranges.specs.Bytes.{Outcome, got, refused}
-use Rattle.contents.specs.Records.{Record, enter, remove, confirm, preview, query}
+use Rattle.frames.specs.Bytes.{Outcome, got, refused}
+use Rattle.reader.specs.Contents.{Record, enter, remove, confirm, preview, query}
 use Rattle.reader.specs.Records.{read_canonical}
-use Rattle.contents.specs.Requests.{fits}
+use Rattle.reader.specs.Found.{fits}
 use Rattle.sorts.specs.declared.Prin.{Prin}
 use Rattle.sorts.specs.declared.Status.TheVariants.{Issued, Provisional}
 use Rattle.sorts.specs.declared.Refusal.TheVariants as refusal
 use Rattle.sorts.specs.Refusals.{refusal_number}
 use Rattle.bookform.specs.declared.Book.{Book}
-use Rattle.answer.specs.declared.Answer.{Answer}
-use Rattle.answer.specs.declared.Answer.TheVariants.{Permitted, Open, NotPermitted, Changed, Previewed, Refused}
+use Rattle.bookform.specs.declared.answer.Answer.{Answer}
+use Rattle.bookform.specs.declared.answer.Answer.TheVariants.{Permitted, Open, NotPermitted, Changed, Previewed, Refused}
 use Rattle.marks.specs.declared.Counts.{Counts}
-use Rattle.answer.specs.declared.Answered.{Answered}
+use Rattle.bookform.specs.declared.answer.Answered.{Answered}
 use Rattle.machine.specs.Machine.{State, changes, previews, asks, stands, there, start, step, feed}
 use Rattle.machine.specs.Closed.{none, all, Stands}
 use Rattle.machine.specs.Choices.{AlwaysStands, NeverStands, Undecided}
-use Rattle.blocks.specs.Gains.{gains}
+use Rattle.marks.specs.Gains.{gains}
 use Rattle.marks.specs.Counts.{Statements, ones, marks_of, counts_of, change_in}
 use Rattle.bookform.specs.Books.{BookForm, Lent}
 use Rattle.book.specs.Shows.{Shows}

@@ -3,8 +3,8 @@ use Rattle.std.specs.Prelude.{ℕ, ◌≡◌, List, ◌++◌, ◌↔◌}
 use Rattle.frames.specs.declared.Kind.TheVariants.{Wd, Pv}
 use Rattle.frames.specs.Frames.{letters_of}
 use Rattle.marks.specs.declared.Counts.{Counts}
-use Rattle.answer.specs.declared.Answer.TheVariants.{Changed, Previewed, Refused}
-use Rattle.answer.specs.declared.Answered.{Answered}
+use Rattle.bookform.specs.declared.answer.Answer.TheVariants.{Changed, Previewed, Refused}
+use Rattle.bookform.specs.declared.answer.Answered.{Answered}
 use Rattle.sorts.specs.declared.Refusal.{Refusal}
 
 -- The letters pv and wd, and the same bytes after them.

@@ -6,9 +6,9 @@ use native.Mathlib.Omega.{arith}
 use lib.ListN.{length, length-append}
 use Rattle.sorts.specs.declared.Status.TheVariants.{Trusted, Issued, Provisional}
 use Rattle.sorts.specs.declared.Refusal.{Refusal}
-use Rattle.ranges.specs.Bytes.{Outcome, got, refused, and_then}
+use Rattle.frames.specs.Bytes.{Outcome, got, refused, and_then}
 use Rattle.frames.specs.Frames.{extent}
-use Rattle.contents.specs.Records.{Record, enter, remove, confirm, preview, query, canon_record}
+use Rattle.reader.specs.Contents.{Record, enter, remove, confirm, preview, query, canon_record}
 use Rattle.reader.specs.Records.{read_record, read_canonical}
 use Rattle.exact.proofs.Framing.{in_frame_length}
 use Rattle.exact.specs.Writing.{kind_of, written_status, content_of, written_record, AllowedRecord}

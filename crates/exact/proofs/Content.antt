@@ -12,11 +12,11 @@ use Rattle.sorts.specs.declared.Refusal.TheVariants as refusal
 use Rattle.sorts.specs.declared.Refusal.{Refusal}
 use Rattle.rows.specs.Written.{Grant}
 use Rattle.frames.specs.declared.Kind.TheVariants.{Wd, Pv}
-use Rattle.ranges.specs.Bytes.{Outcome, got, refused, and_then, upto}
+use Rattle.frames.specs.Bytes.{Outcome, got, refused, and_then, upto}
 use Rattle.canon.specs.Canon.{canon}
 use Rattle.grants.specs.Grants.{read_grant}
 use Rattle.frames.specs.Frames.{letters_of, stated, Frame, holds, ends, sized, frame_length, extent}
-use Rattle.contents.specs.Records.{Record, enter, remove, confirm, preview, query, read_entry, read_licence, read_content, canon_record}
+use Rattle.reader.specs.Contents.{Record, enter, remove, confirm, preview, query, read_entry, read_licence, read_content, canon_record}
 use Rattle.reader.specs.Records.{beyond, fitted, read_whole, framed, read_record, read_canonical}
 use Rattle.exact.proofs.Framing.{letters_frame}
 

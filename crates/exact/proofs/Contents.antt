@@ -13,10 +13,10 @@ use Rattle.rows.specs.Form.{depth}
 use Rattle.rows.specs.Allowed.{Allowed}
 use Rattle.frames.specs.declared.Kind.{Kind}
 use Rattle.frames.specs.declared.Kind.TheVariants.{Tg, St, Li, Wd, Qu, Pl, Cf, Pv}
-use Rattle.ranges.specs.Bytes.{got}
+use Rattle.frames.specs.Bytes.{got}
 use Rattle.grants.specs.Grants.{read_grant}
 use Rattle.exact.specs.Writing.{kind_of, content_of, AllowedRecord}
-use Rattle.contents.specs.Records.{Record, enter, remove, confirm, preview, query, read_entry, read_licence, nothing_declared, read_query, read_content}
+use Rattle.reader.specs.Contents.{Record, enter, remove, confirm, preview, query, read_entry, read_licence, nothing_declared, read_query, read_content}
 use Rattle.reader.specs.Records.{read_whole}
 use Rattle.grants.proofs.Spelled.{Spelled, nothing, join, part, between}
 use Rattle.grants.proofs.Gives.{Gives, done, after}

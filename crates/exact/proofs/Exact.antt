@@ -12,9 +12,9 @@ use Rattle.frames.specs.declared.Kind.{Kind}
 use Rattle.sorts.specs.declared.Status.TheVariants.{Trusted, Issued, Provisional}
 use Rattle.sorts.specs.Numbers.{depths}
 use Rattle.sorts.specs.declared.Refusal.TheVariants as refusal
-use Rattle.ranges.specs.Bytes.{Outcome, got, refused, and_then}
+use Rattle.frames.specs.Bytes.{Outcome, got, refused, and_then}
 use Rattle.frames.specs.Frames.{letters_of, Frame, holds, ends, frame, extent}
-use Rattle.contents.specs.Records.{Record, enter, remove, confirm, preview, query, read_content}
+use Rattle.reader.specs.Contents.{Record, enter, remove, confirm, preview, query, read_content}
 use Rattle.reader.specs.Records.{fitted, read_whole, framed, read_record}
 use Rattle.canon.proofs.Size as size
 use Rattle.exact.specs.Writing.{kind_of, content_of, in_frame, written_record, AllowedRecord, Bytes}

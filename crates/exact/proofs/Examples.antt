@@ -9,10 +9,10 @@ use Rattle.sorts.specs.declared.Refusal.TheVariants as refusal
 use Rattle.rows.specs.Written.{grant, none, property, perm, issue, written}
 use Rattle.rows.specs.Form.{depth}
 use Rattle.rows.specs.Allowed.{Allowed}
-use Rattle.ranges.specs.Bytes.{Outcome, got, refused, byte_at, upto, principal, pack, tag, header}
+use Rattle.frames.specs.Bytes.{Outcome, got, refused, byte_at, upto, principal, pack, tag, header}
 use Rattle.grants.specs.Grants.{read_property, read_packed, read_issue, read_concl, read_conds, read_with, read_grant}
 use Rattle.frames.specs.Frames.{kind_with, read_mark, frame}
-use Rattle.contents.specs.Records.{Record, enter, confirm, query, read_entry, read_licence, read_query, read_content}
+use Rattle.reader.specs.Contents.{Record, enter, confirm, query, read_entry, read_licence, read_query, read_content}
 use Rattle.reader.specs.Records.{read_whole, read_record}
 use Rattle.exact.specs.Writing.{in_frame, written_record, AllowedRecord}
 use Rattle.exact.proofs.Exact.{record_read}

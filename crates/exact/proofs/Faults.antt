@@ -17,14 +17,14 @@ use Rattle.sorts.specs.declared.Refusal.TheVariants as refusal
 use Rattle.sorts.specs.declared.Refusal.{Refusal}
 use Rattle.sorts.specs.Refusals.{refusal_number}
 use Rattle.rows.specs.Written.{Grant, Conds, Concl}
-use Rattle.ranges.specs.declared.Scope.{Scope}
-use Rattle.ranges.specs.declared.Header.{Header}
+use Rattle.frames.specs.declared.ranges.Scope.{Scope}
+use Rattle.frames.specs.declared.ranges.Header.{Header}
 use Rattle.frames.specs.declared.Kind.{Kind}
 use Rattle.frames.specs.declared.Kind.TheVariants.{Tg, St, Li, Wd, Qu, Pl, Cf, Pv}
-use Rattle.ranges.specs.Bytes.{Outcome, got, refused, and_then, byte_at, upto, declared, principal, pack, tag, header}
+use Rattle.frames.specs.Bytes.{Outcome, got, refused, and_then, byte_at, upto, declared, principal, pack, tag, header}
 use Rattle.grants.specs.Grants.{read_property, read_packed, read_issue, read_concl, read_conds, read_with, read_grant}
 use Rattle.frames.specs.Frames.{letters_of, kinds, kind_with, stated, Frame, holds, ends, sized, marked, frame, frame_length, extent}
-use Rattle.contents.specs.Records.{Record, enter, remove, confirm, preview, read_entry, read_licence, nothing_declared, read_query, read_content}
+use Rattle.reader.specs.Contents.{Record, enter, remove, confirm, preview, read_entry, read_licence, nothing_declared, read_query, read_content}
 use Rattle.reader.specs.Records.{fitted, read_whole, framed, read_record}
 use Rattle.exact.specs.Writing.{kind_of, content_of, AllowedRecord, NeedsFewer, NeedsMore}
 use Rattle.frames.proofs.Letters.{kind_letters, kind_none}

@@ -10,7 +10,7 @@ use lib.Seq.{length-take-le, take_at}
 use lib.Dec.{leb}
 use borrow.Author.Tests.{leb-true, le-leb}
 use Rattle.frames.specs.declared.Kind.{Kind}
-use Rattle.ranges.specs.Bytes.{Outcome, got, refused}
+use Rattle.frames.specs.Bytes.{Outcome, got, refused}
 use Rattle.frames.specs.Frames.{letters_of, kinds, kind_with, stated, Frame, holds, ends, sized, marked, frame, frame_length, extent}
 use Rattle.exact.specs.Writing.{in_frame}
 use Rattle.frames.proofs.Letters.{first, second, two_letters, kind_again, kind_letters, kind_none, letters_read, mark_none, mark_one}

@@ -10,7 +10,7 @@ use Rattle.rows.specs.Allowed.{Allowed, AllowedConcl}
 use Rattle.frames.specs.declared.Kind.{Kind}
 use Rattle.frames.specs.declared.Kind.TheVariants.{Tg, St, Li, Wd, Qu, Pl, Cf, Pv}
 use Rattle.frames.specs.Frames.{letters_of}
-use Rattle.contents.specs.Records.{Record, enter, remove, confirm, preview, query, read_content}
+use Rattle.reader.specs.Contents.{Record, enter, remove, confirm, preview, query, read_content}
 
 -- "TG enters a trusted grant, ST strikes it"; "LI issues a licence, WD withdraws it"; "QU queries". Document 02, 5: "Record PL enters a
 -- provisional licence in the form of LI; CF, in the form of WD, makes a provisional one firm. WD removes either kind."

@@ -1,6 +1,9 @@
 // The form that a grant table must have, and the test of it.
 #![tactic(auto)]
 
+mod depths;
+mod distinct;
+
 ghost use Rattle.std.specs.Prelude.{◌≡◌, ℕ, ◌≤◌, ◌<◌, get_or};
 ghost use Rattle.sorts.specs.declared.Res.TheVariants.{Issue};
 ghost use Rattle.sorts.specs.Numbers.{grants, conditions};

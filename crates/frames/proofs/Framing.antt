@@ -13,7 +13,7 @@ use borrow.Author.Tests.{le-leb, lt-leb}
 use Rattle.frames.specs.declared.Kind.{Kind}
 use Rattle.sorts.specs.declared.Refusal.{Refusal}
 use Rattle.sorts.specs.declared.Refusal.TheVariants.{Missing}
-use Rattle.ranges.specs.Bytes.{Outcome, got, refused, and_then, as_result, byte_at}
+use Rattle.frames.specs.Bytes.{Outcome, got, refused, and_then, as_result, byte_at}
 use Rattle.frames.specs.Frames.{kinds, opens, kind_with, read_mark, stated, holds, ends, sized, marked, frame}
 use Rattle.frames.specs.Inner.Told.{Framed}
 use Rattle.frames.proofs.Marks.{mark_got, mark_no}

@@ -11,7 +11,7 @@ use Rattle.frames.specs.declared.Kind.{Kind}
 use Rattle.frames.specs.declared.Kind.TheVariants.{Tg, St, Li, Wd, Qu, Pl, Cf, Pv}
 use Rattle.sorts.specs.declared.Refusal.{Refusal}
 use Rattle.sorts.specs.declared.Refusal.TheVariants.{Missing, Mark}
-use Rattle.ranges.specs.Bytes.{got, refused, byte_at}
+use Rattle.frames.specs.Bytes.{got, refused, byte_at}
 use Rattle.frames.specs.Frames.{letters_of, kinds, opens, kind_with, read_mark}
 
 -- The letters of a kind are two.

@@ -13,7 +13,7 @@ use borrow.Author.Tests.{lt-ltb, le-ltb}
 use Rattle.frames.specs.declared.Kind.{Kind}
 use Rattle.sorts.specs.declared.Refusal.{Refusal}
 use Rattle.sorts.specs.declared.Refusal.TheVariants.{Missing, Mark}
-use Rattle.ranges.specs.Bytes.{Outcome, got, refused, and_then, as_result, byte_at}
+use Rattle.frames.specs.Bytes.{Outcome, got, refused, and_then, as_result, byte_at}
 use Rattle.frames.specs.Frames.{kinds, opens, kind_with, read_mark}
 use Rattle.frames.specs.Inner.Told.{Names}
 

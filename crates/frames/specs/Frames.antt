@@ -5,7 +5,7 @@ use Rattle.frames.specs.declared.Kind.{Kind}
 use Rattle.frames.specs.declared.Kind.TheVariants.{Tg, St, Li, Wd, Qu, Pl, Cf, Pv}
 use Rattle.sorts.specs.declared.Refusal.{Refusal}
 use Rattle.sorts.specs.declared.Refusal.TheVariants.{Missing, Mark}
-use Rattle.ranges.specs.Bytes.{Outcome, got, refused, and_then, byte_at}
+use Rattle.frames.specs.Bytes.{Outcome, got, refused, and_then, byte_at}
 
 -- "Each opens with two letters in ASCII." Document 02, 7: "New records have lower-case mark letters".
 abbrev pub letters_of : Kind → List ℕ

@@ -1,2 +1,3 @@
 pub mod Frames
 pub mod Inner
+pub mod Bytes

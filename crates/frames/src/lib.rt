@@ -1,9 +1,11 @@
 // The frame of a record: two mark bytes, two bytes with the length of its content, and the content.
 #![tactic(auto)]
 
+pub mod ranges;
+
 ghost use Rattle.std.specs.Prelude.{◌≡◌, ◌≤◌, drop};
 ghost use Rattle.frames.specs.Frames.{letters_of, read_mark, stated, sized, frame};
-ghost use Rattle.ranges.specs.Bytes.{as_result};
+ghost use Rattle.frames.specs.Bytes.{as_result};
 ghost use Rattle.frames.specs.Inner.Told.{longest, Names, Framed};
 
 use sorts::Refusal;

@@ -8,8 +8,8 @@ use lib.ListN.{length, take, drop}
 use Rattle.rows.specs.Written.{Grant, Conds, Concl, grant, property, perm, how_many, written, written_conds, written_concl}
 use Rattle.rows.specs.Form.{depth, depth_conds, depth_concl}
 use Rattle.rows.specs.Allowed.{Allowed, AllowedConds, AllowedConcl}
-use Rattle.ranges.specs.declared.Scope.{Scope}
-use Rattle.ranges.specs.Bytes.{got}
+use Rattle.frames.specs.declared.ranges.Scope.{Scope}
+use Rattle.frames.specs.Bytes.{got}
 use Rattle.grants.specs.Grants.{read_concl, read_conds, read_grant}
 use Rattle.grants.proofs.Spelled.{Spelled, spelled_take, spelled_fits, spelled_starts, between}
 use Rattle.grants.proofs.Found.{concl_found, conds_found, grant_found}

@@ -13,9 +13,9 @@ use Rattle.rows.specs.Written.{Grant, Conds, Concl, Right, perm, issue, issue_an
 use Rattle.rows.specs.Form.{larger, depth, depth_conds, depth_concl, depth_right}
 use Rattle.sorts.specs.RowForm.{PrinForm, PackForm}
 use Rattle.rows.specs.Allowed.{Allowed, AllowedConds, AllowedConcl, AllowedRight}
-use Rattle.ranges.specs.declared.Scope.{Scope}
-use Rattle.ranges.specs.declared.Header.{Header}
-use Rattle.ranges.specs.Bytes.{Outcome, and_then, byte_at, upto, principal, pack, tag, header, declared}
+use Rattle.frames.specs.declared.ranges.Scope.{Scope}
+use Rattle.frames.specs.declared.ranges.Header.{Header}
+use Rattle.frames.specs.Bytes.{Outcome, and_then, byte_at, upto, principal, pack, tag, header, declared}
 use Rattle.grants.specs.Grants.{read_property, read_packed, read_issue, read_concl, read_conds, read_with, read_grant}
 use Rattle.grants.proofs.Spelled.{Spelled, join, nothing, byte_spelled}
 use Rattle.grants.proofs.Gives.{Gives, done, not_got, after, choose}

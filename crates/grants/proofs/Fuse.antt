@@ -30,9 +30,9 @@ use Rattle.rows.proofs.Bytes.{no_true}
 use Rattle.rows.proofs.Rows.{ConclBelow, concl_up, concl_ext, conds_ext, write_issue}
 use Rattle.rows.proofs.Appended.{Ext, ext_length, add_ext, conds_more, concl_more}
 use Rattle.rows.proofs.Entering.{Good, tied, over, Names, Put, put}
-use Rattle.ranges.specs.declared.Scope.{Scope}
-use Rattle.ranges.specs.declared.Header.{Header}
-use Rattle.ranges.specs.Bytes.{Outcome, got, refused, and_then, upto, principal, pack, tag, header}
+use Rattle.frames.specs.declared.ranges.Scope.{Scope}
+use Rattle.frames.specs.declared.ranges.Header.{Header}
+use Rattle.frames.specs.Bytes.{Outcome, got, refused, and_then, upto, principal, pack, tag, header}
 use Rattle.grants.specs.Grants.{read_property, read_packed, read_issue, read_concl, read_conds, read_with, read_grant}
 use Rattle.grants.specs.Inner.OnePass.{Numbered, over as left, onward, rowed, num_property, num_packed, num_issue, num_concl, num_conds, num_with, num_grant, blank_conds}
 use Rattle.grants.proofs.Found.{header_found, grant_found}

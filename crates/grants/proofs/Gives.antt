@@ -3,7 +3,7 @@ use Prim.Native.Nat.{ℕ}
 use mathlib.Core.Path.{◌≡◌, refl}
 use mathlib.Core.Bool.{Bool, true, false, cond}
 use Rattle.sorts.specs.declared.Refusal.{Refusal}
-use Rattle.ranges.specs.Bytes.{Outcome, got, refused, and_then}
+use Rattle.frames.specs.Bytes.{Outcome, got, refused, and_then}
 
 -- P holds of what o found and of the place after it
 abbrev pub Gives : {A : Type 0} → (A → ℕ → Type 0) → Outcome A → Type 0

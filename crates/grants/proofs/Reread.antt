@@ -14,8 +14,8 @@ use Rattle.rows.specs.Form.{larger, depth, depth_conds, depth_concl, depth_right
 use Rattle.sorts.specs.RowForm.{PrinForm, PackForm}
 use Rattle.rows.specs.Allowed.{Allowed, AllowedConds, AllowedConcl, AllowedRight}
 use Rattle.sorts.specs.declared.Refusal.TheVariants.{Range}
-use Rattle.ranges.specs.declared.Scope.{Scope}
-use Rattle.ranges.specs.Bytes.{Outcome, got, refused, byte_at, upto, principal, pack, tag, header, declared}
+use Rattle.frames.specs.declared.ranges.Scope.{Scope}
+use Rattle.frames.specs.Bytes.{Outcome, got, refused, byte_at, upto, principal, pack, tag, header, declared}
 use Rattle.grants.specs.Grants.{read_property, read_packed, read_issue, read_concl, read_conds, read_with, read_grant}
 use Rattle.grants.proofs.Spelled.{Spelled, part, byte_stands}
 

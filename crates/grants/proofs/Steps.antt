@@ -12,10 +12,10 @@ use Rattle.sorts.specs.declared.Cond.{Cond}
 use Rattle.sorts.specs.declared.GrantNo.{GrantNo}
 use Rattle.sorts.specs.declared.Refusal.{Refusal}
 use Rattle.rows.specs.declared.Numbering.{Numbering}
-use Rattle.ranges.specs.declared.Scope.{Scope}
-use Rattle.ranges.specs.declared.Cursor.{Cursor}
-use Rattle.ranges.specs.Bytes.{Outcome, got, refused, as_read, principal}
-use Rattle.ranges.proofs.Answers.{was_got, was_refused}
+use Rattle.frames.specs.declared.ranges.Scope.{Scope}
+use Rattle.frames.specs.declared.ranges.Cursor.{Cursor}
+use Rattle.frames.specs.Bytes.{Outcome, got, refused, as_read, principal}
+use Rattle.frames.proofs.ranges.Answers.{was_got, was_refused}
 use Rattle.grants.specs.Inner.OnePass.{Numbered, Matches, over, onward, num_grant, num_with, num_conds, num_concl}
 
 -- what numbers nothing

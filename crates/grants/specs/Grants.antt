@@ -4,8 +4,8 @@ use Rattle.std.specs.Prelude.{ℕ, zero, suc, ◌-◌, cond, List, eqb}
 use Rattle.sorts.specs.Numbers.{properties}
 use Rattle.rows.specs.Written.{Grant, Conds, Concl, grant, none, also, property, perm, issue, issue_any, run, export}
 use Rattle.sorts.specs.declared.Refusal.TheVariants.{Depth}
-use Rattle.ranges.specs.declared.Scope.{Scope}
-use Rattle.ranges.specs.Bytes.{Outcome, got, refused, and_then, upto, principal, pack, tag, header}
+use Rattle.frames.specs.declared.ranges.Scope.{Scope}
+use Rattle.frames.specs.Bytes.{Outcome, got, refused, and_then, upto, principal, pack, tag, header}
 
 -- "00: property byte 00 to 0F, then a principal."
 unfoldable pub read_property : Scope → List ℕ → ℕ → Outcome Concl

@@ -3,10 +3,10 @@
 
 ghost use Rattle.std.specs.Prelude.{◌≡◌, ◌≤◌};
 ghost use Rattle.sorts.specs.Numbers.{conditions};
-ghost use Rattle.ranges.specs.Bytes.{as_read};
+ghost use Rattle.frames.specs.Bytes.{as_read};
 ghost use Rattle.grants.specs.Inner.OnePass.{Matches, blank_conds, num_grant, num_concl, num_conds, num_issue, num_property, num_packed};
 
-use ranges::{Cursor, Scope};
+use frames::ranges::{Cursor, Scope};
 use rows::Numbering;
 use sorts::{Concl, Cond, GrantNo, Number, Pack, Prin, Refusal, Res, Row};
 

@@ -4,11 +4,11 @@ use mathlib.Core.Path.{◌≡◌, refl, sym, subst}
 use mathlib.Core.List.{List, ◌∷◌}
 use native.Mathlib.Omega.{arith}
 use Rattle.bookform.specs.declared.Book.{Book}
-use Rattle.answer.specs.declared.Answered.{Answered}
+use Rattle.bookform.specs.declared.answer.Answered.{Answered}
 use Rattle.book.specs.Chains as chains
 use Rattle.book.specs.Chains.{Call, Chain}
 use Rattle.demands.proofs.Unique.{no_choice}
-use Rattle.places.specs.Places.{rest_after}
+use Rattle.journal.specs.Places.{rest_after}
 use Rattle.journal.specs.Journals.{Calls, ended, then}
 
 -- the calls of a journal are a list of calls, each on the book and marks that the last one left

@@ -6,10 +6,10 @@ use Rattle.frames.specs.declared.Kind.{Kind}
 use Rattle.frames.specs.Frames.{letters_of}
 use Rattle.marks.specs.declared.Counts.{Counts}
 use Rattle.marks.specs.Counts.{ones}
-use Rattle.answer.specs.declared.Answer.{Answer}
-use Rattle.answer.specs.declared.Answer.TheVariants as answer
-use Rattle.digits.specs.Decimals.{decimal}
-use Rattle.pieces.specs.Words.{space, newline, refused_word, end_word, marks_word}
+use Rattle.bookform.specs.declared.answer.Answer.{Answer}
+use Rattle.bookform.specs.declared.answer.Answer.TheVariants as answer
+use Rattle.lines.specs.Decimals.{decimal}
+use Rattle.lines.specs.Words.{space, newline, refused_word, end_word, marks_word}
 use Rattle.lines.specs.declared.Line.TheVariants as line
 use Rattle.lines.specs.declared.Said.{Said}
 use Rattle.lines.specs.declared.Said.TheVariants as says

@@ -5,14 +5,14 @@ use mathlib.Core.List.{List, [], ◌∷◌}
 use native.Mathlib.Omega.{arith}
 use lib.ListN.{length, drop, length-drop, drop_of_length-le}
 use Rattle.bookform.specs.declared.Book.{Book}
-use Rattle.answer.specs.declared.Answered.{Answered}
+use Rattle.bookform.specs.declared.answer.Answered.{Answered}
 use Rattle.book.specs.Calls.{Called}
 use Rattle.bookform.specs.Books.{fresh_book, fresh_marks}
 use Rattle.book.specs.Chains.{Call}
 use Rattle.journal.specs.Journals.{Calls, ended, then, Leaves}
-use Rattle.places.specs.Places.{next_place}
+use Rattle.journal.specs.Places.{next_place}
 use Rattle.journal.proofs.Calling.{calls_only}
-use Rattle.places.proofs.Places.{next_within, next_rest}
+use Rattle.journal.proofs.places.Places.{next_within, next_rest}
 
 -- What was read up to a place: with any calls of what is left it makes the calls of the journal.
 pub record ReadTo (s : List ℕ) (b : Book) (m k v : List ℕ) (at : ℕ) : Type 0 where

@@ -5,7 +5,7 @@ use mathlib.Core.List.{List}
 use Rattle.frames.specs.declared.Kind.{Kind}
 use Rattle.std.specs.Prelude.{Result, Ok}
 use Rattle.sorts.specs.declared.Refusal.{Refusal}
-use Rattle.ranges.specs.Bytes.{as_result}
+use Rattle.frames.specs.Bytes.{as_result}
 use Rattle.frames.specs.Frames.{letters_of, read_mark}
 use Rattle.frames.proofs.Marks.{mark_got}
 use Rattle.frames.proofs.Letters.{mark_spelt}

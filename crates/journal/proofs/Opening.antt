@@ -5,14 +5,14 @@ use mathlib.Core.Logic.{⊎_elim}
 use mathlib.Core.List.{List}
 use native.Mathlib.Omega.{arith}
 use Rattle.frames.specs.declared.Kind.{Kind}
-use Rattle.ranges.specs.Bytes.{Outcome, got, refused, and_then}
+use Rattle.frames.specs.Bytes.{Outcome, got, refused, and_then}
 use Rattle.frames.specs.Frames.{read_mark, marked, frame, extent}
-use Rattle.contents.specs.Records.{Record, canon_record}
+use Rattle.reader.specs.Contents.{Record, canon_record}
 use Rattle.reader.specs.Records.{framed, read_record, read_canonical}
 use Rattle.bookform.specs.declared.Book.{Book}
-use Rattle.answer.specs.declared.Answered.{Answered}
-use Rattle.answer.specs.declared.Answer.{Answer}
-use Rattle.answer.specs.declared.Answer.TheVariants.{Permitted, Open, NotPermitted, Changed, Previewed, Refused}
+use Rattle.bookform.specs.declared.answer.Answered.{Answered}
+use Rattle.bookform.specs.declared.answer.Answer.{Answer}
+use Rattle.bookform.specs.declared.answer.Answer.TheVariants.{Permitted, Open, NotPermitted, Changed, Previewed, Refused}
 use Rattle.machine.specs.Machine.{State, acted, step}
 use Rattle.book.specs.Calls.{answer_of, Called}
 use Rattle.demands.proofs.Shown.{shows_some}

@@ -1,12 +1,12 @@
 -- The reading of a whole journal.
 use Rattle.std.specs.Prelude.{ℕ, ◌<◌, ◌≡◌, List, [], ◌∷◌, length, drop}
 use Rattle.bookform.specs.declared.Book.{Book}
-use Rattle.answer.specs.declared.Answered.{Answered}
+use Rattle.bookform.specs.declared.answer.Answered.{Answered}
 use Rattle.book.specs.Calls.{Called}
 use Rattle.bookform.specs.Books.{fresh_book, fresh_marks}
 use Rattle.book.specs.Chains.{Call}
 use Rattle.lines.specs.Pieces.{Carries}
-use Rattle.places.specs.Places.{rest_after, next_place}
+use Rattle.journal.specs.Places.{rest_after, next_place}
 use Rattle.journal.specs.declared.Stepped.{Stepped}
 use Rattle.journal.specs.Lines.{line_of}
 

@@ -1,13 +1,13 @@
 -- Document 01, "What the listing program prints": the bytes of each line, in ASCII.
 use Rattle.std.specs.Prelude.{ℕ, ◌≡◌, List, ◌++◌, take}
-use Rattle.ranges.specs.Bytes.{refused}
+use Rattle.frames.specs.Bytes.{refused}
 use Rattle.frames.specs.Frames.{read_mark}
 use Rattle.marks.specs.declared.Counts.{Counts}
 use Rattle.marks.specs.Counts.{ones}
-use Rattle.answer.specs.declared.Answer.{Answer}
-use Rattle.answer.specs.declared.Answer.TheVariants.{Permitted, Open, NotPermitted, Changed, Previewed, Refused}
-use Rattle.digits.specs.Decimals.{decimal, signed}
-use Rattle.pieces.specs.Words.{space, newline, permitted, open_word, not_permitted, refused_word, end_word, marks_word}
+use Rattle.bookform.specs.declared.answer.Answer.{Answer}
+use Rattle.bookform.specs.declared.answer.Answer.TheVariants.{Permitted, Open, NotPermitted, Changed, Previewed, Refused}
+use Rattle.lines.specs.Decimals.{decimal, signed}
+use Rattle.lines.specs.Words.{space, newline, permitted, open_word, not_permitted, refused_word, end_word, marks_word}
 use Rattle.lines.specs.declared.Said.{Said}
 use Rattle.lines.specs.Pieces.{said_pieces, joined}
 use Rattle.sorts.specs.declared.Refusal.{Refusal}

@@ -2,12 +2,12 @@
 ghost use Rattle.std.specs.Prelude.{◌≡◌};
 ghost use Rattle.sorts.specs.declared.Refusal.{Refusal};
 ghost use Rattle.sorts.specs.Refusals.{refusal_number};
-ghost use Rattle.ranges.specs.Bytes.{refused};
+ghost use Rattle.frames.specs.Bytes.{refused};
 ghost use Rattle.frames.specs.Frames.{letters_of, read_mark};
 ghost use Rattle.lines.specs.Pieces.{Carries};
 ghost use Rattle.journal.specs.Lines.{letters_in, line_of, end_of, refused_line, Opened, Says};
 
-use answer::Answer;
+use bookform::answer::Answer;
 use frames::Kind;
 use lines::{Line, Said};
 use marks::standing;

@@ -2,12 +2,13 @@
 #![tactic(auto)]
 
 pub mod answers;
+pub mod places;
 
 ghost use Rattle.std.specs.Prelude.{◌≤◌, length};
 ghost use Rattle.journal.specs.Journals.{Steps, Leaves};
 
-use answer::Answered;
 use bookform::Book;
+use bookform::answer::Answered;
 use lines::Line;
 use sorts::Number;
 

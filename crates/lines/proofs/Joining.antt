@@ -8,13 +8,13 @@ use Rattle.sorts.specs.Refusals.{refusal_number}
 use Rattle.frames.specs.declared.Kind.{Kind}
 use Rattle.frames.specs.Frames.{letters_of}
 use Rattle.frames.proofs.Letters.{two_letters}
-use Rattle.digits.specs.Decimals.{decimal}
-use Rattle.pieces.specs.Words.{newline}
+use Rattle.lines.specs.Decimals.{decimal}
+use Rattle.lines.specs.Words.{newline}
 use Rattle.lines.specs.declared.Line.{Line}
 use Rattle.lines.specs.declared.Line.TheVariants as line
 use Rattle.lines.specs.declared.Said.{Said}
 use Rattle.lines.specs.declared.Said.TheVariants as says
-use Rattle.pieces.specs.Pieces.{each, last_number}
+use Rattle.lines.specs.Numerals.{each, last_number}
 use Rattle.lines.specs.Pieces.{said_pieces, line_pieces, joined}
 
 pub each_joined : (xs : List ℕ) (ps : List (List ℕ)) → joined (each xs ++ ps) ≡ xs ++ joined ps

@@ -2,9 +2,9 @@
 use Rattle.std.specs.Prelude.{ℕ, ◌≡◌, List, [], ◌∷◌, ◌++◌}
 use Rattle.sorts.specs.Refusals.{refusal_number}
 use Rattle.frames.specs.Frames.{letters_of}
-use Rattle.digits.specs.Decimals.{decimal}
-use Rattle.pieces.specs.Words.{space, newline, permitted, open_word, not_permitted, refused_word, end_word, marks_word}
-use Rattle.pieces.specs.Pieces.{each, last_number, net_pieces}
+use Rattle.lines.specs.Decimals.{decimal}
+use Rattle.lines.specs.Words.{space, newline, permitted, open_word, not_permitted, refused_word, end_word, marks_word}
+use Rattle.lines.specs.Numerals.{each, last_number, net_pieces}
 use Rattle.lines.specs.declared.Line.{Line}
 use Rattle.lines.specs.declared.Line.TheVariants as line
 use Rattle.lines.specs.declared.Said.{Said}

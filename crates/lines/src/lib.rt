@@ -1,6 +1,8 @@
 // The lines of a listing. The pieces of each are in specs/.
 #![tactic(auto)]
 
+pub mod digits;
+
 use frames::Kind;
 use marks::Counts;
 use sorts::Refusal;

@@ -6,7 +6,7 @@ use Rattle.lines.specs.declared.Line.{Line}
 use Rattle.lines.specs.Pieces.{line_pieces, joined}
 use Rattle.listings.specs.Listings.{Listed, Follows, Finished}
 use Rattle.listings.proofs.Listings.{listed_only, follows_listed}
-use Rattle.output.proofs.Taken.{joined_more, none_joined}
+use Rattle.streams.proofs.output.Taken.{joined_more, none_joined}
 use Rattle.listing.specs.Writing.{TookListing}
 
 -- An output that held a took the first n lines of the listing of s, and holds b.

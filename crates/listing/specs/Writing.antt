@@ -1,7 +1,7 @@
 -- What the program writes.
 use Rattle.std.specs.Prelude.{ℕ, ◌≤◌, List, length, Option}
 use Rattle.std.specs.Io.KnownBytes.{Appends, Consumes, IsAtEnd}
-use Rattle.places.specs.Places.{longest_journal}
+use Rattle.journal.specs.Places.{longest_journal}
 use Rattle.lines.specs.Pieces.{joined}
 use Rattle.listings.specs.Listings.{Listed}
 

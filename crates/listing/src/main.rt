@@ -2,14 +2,15 @@
 #![tactic(auto)]
 
 ghost use Rattle.std.specs.Prelude.{◌≤◌, length, OnOk};
-ghost use Rattle.places.specs.Places.{longest_journal};
+ghost use Rattle.journal.specs.Places.{longest_journal};
 ghost use Rattle.listing.specs.Writing.{TookListing, Lists};
 
 use bookform::Book;
-use journal::answers;
+use journal::{answers, places};
 use sorts::{Number, Refusal};
 use std::io::{Read, Write};
 use std::{fmt, io};
+use streams::{input, output};
 
 // What failed.
 #[derive(Clone, Copy)]

@@ -7,20 +7,20 @@ use mathlib.Core.List.{List}
 use native.Mathlib.Omega.{arith}
 use lib.ListN.{length, get_or}
 use lib.Dec.{eqb}
-use Rattle.ranges.specs.Bytes.{Outcome, got, refused}
+use Rattle.frames.specs.Bytes.{Outcome, got, refused}
 use Rattle.sorts.specs.Numbers.{all_marks}
 use Rattle.sorts.specs.declared.Refusal.{Refusal}
 use Rattle.sorts.specs.Refusals.{refusal_number}
 use Rattle.frames.specs.Frames.{extent}
-use Rattle.contents.specs.Records.{Record}
+use Rattle.reader.specs.Contents.{Record}
 use Rattle.reader.specs.Records.{read_record, read_canonical}
 use Rattle.exact.proofs.Exact.{record_found}
 use Rattle.exact.proofs.CanonicalRecords.{canonical_got, canonical_refused}
 use Rattle.exact.proofs.Faults.{Turned, at_frame, in_content, fault_at}
 use Rattle.rules.proofs.Standing.{standing_length}
 use Rattle.bookform.specs.declared.Book.{Book}
-use Rattle.answer.specs.declared.Answer.TheVariants.{Permitted, Open, NotPermitted}
-use Rattle.answer.specs.declared.Answered.{Answered}
+use Rattle.bookform.specs.declared.answer.Answer.TheVariants.{Permitted, Open, NotPermitted}
+use Rattle.bookform.specs.declared.answer.Answered.{Answered}
 use Rattle.machine.specs.Machine.{State, Verdict, changes, previews, asks, refuses, act, acted, step}
 use Rattle.machine.proofs.Steps.{act_acts}
 use Rattle.bookform.specs.Books.{Lent}

@@ -16,12 +16,12 @@ use Rattle.demands.proofs.Demand3.{demand_3}
 use Rattle.demands.proofs.Existence.{call_some, blank_preview}
 use Rattle.demands.proofs.Reached.{Reached, fresh_form, fresh_shows, fresh_reached, reached_after}
 use Rattle.lines.specs.declared.Line.{Line}
-use Rattle.places.specs.Places.{rest_after}
+use Rattle.journal.specs.Places.{rest_after}
 use Rattle.journal.specs.Journals.{Calls, ended, then}
 use Rattle.listings.specs.Listings.{Listed, over, read, record_lines, Told, Follows, Finished}
 use Rattle.journal.specs.Lines.{line_of, end_of}
 use Rattle.lines.specs.Pieces.{Carries}
-use Rattle.places.proofs.Places.{rest_none, rest_some}
+use Rattle.journal.proofs.places.Places.{rest_none, rest_some}
 use Rattle.journal.proofs.Calling.{calls_chain, calls_only}
 use Rattle.listings.proofs.Ending.{left_long, all_end}
 

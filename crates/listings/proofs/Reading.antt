@@ -18,7 +18,7 @@ use Rattle.journal.specs.Journals.{Calls, ended, then, Steps}
 use Rattle.listings.specs.Listings.{Follows, Finished, Listed, over, read, record_lines}
 use Rattle.lines.specs.Pieces.{Carries}
 use Rattle.journal.specs.Lines.{line_of, end_of, refused_line}
-use Rattle.places.proofs.Places.{next_within, next_further, next_rest}
+use Rattle.journal.proofs.places.Places.{next_within, next_further, next_rest}
 use Rattle.listings.proofs.Ending.{left_long}
 use Rattle.listings.proofs.Listings.{calls_from, lines_count, line_at}
 

@@ -2,12 +2,12 @@
 use Rattle.std.specs.Prelude.{ℕ, ◌+◌, ◌≤◌, ◌<◌, ◌≡◌, ◌↔◌, List, [], ◌∷◌, ◌++◌, length, get_or}
 use Rattle.sorts.specs.Refusals.{refusal_number}
 use Rattle.bookform.specs.declared.Book.{Book}
-use Rattle.answer.specs.declared.Answer.{Answer}
-use Rattle.answer.specs.declared.Answer.TheVariants.{Permitted, Open, NotPermitted, Changed, Previewed, Refused}
+use Rattle.bookform.specs.declared.answer.Answer.{Answer}
+use Rattle.bookform.specs.declared.answer.Answer.TheVariants.{Permitted, Open, NotPermitted, Changed, Previewed, Refused}
 use Rattle.bookform.specs.Books.{fresh_book, fresh_marks}
 use Rattle.book.specs.Chains.{Call}
 use Rattle.demands.specs.Demands.{Demand3}
-use Rattle.places.specs.Places.{longest_journal}
+use Rattle.journal.specs.Places.{longest_journal}
 use Rattle.lines.specs.declared.Line.{Line}
 use Rattle.lines.specs.Pieces.{Carries}
 use Rattle.journal.specs.Lines.{line_of, end_of, refused_line}

@@ -18,7 +18,7 @@ use Rattle.rows.specs.Written.{Grant}
 use Rattle.rows.specs.Numbering.{place, has}
 use Rattle.rows.specs.Form.{no_grant}
 use Rattle.rows.proofs.Place.{Distinct, place_at, has_lt}
-use Rattle.flags.specs.Changes.{bit, is_set, put, entered_flags, there_flags, removed_flags, FlagsApart}
+use Rattle.bookform.specs.Changes.{bit, is_set, put, entered_flags, there_flags, removed_flags, FlagsApart}
 use Rattle.machine.specs.Machine.{Entry, member, insert, delete, entry, entered, there, removed}
 use Rattle.machine.proofs.Apart.{Apart}
 use Rattle.machine.proofs.Sets.{entry_dec, insert_same, insert_other, delete_same, delete_other}

@@ -11,11 +11,11 @@ use Rattle.sorts.specs.Refusals.{refusal_number}
 use Rattle.sorts.specs.declared.Refusal.TheVariants as refusal
 use Rattle.rows.specs.Written.{Grant}
 use Rattle.rows.specs.Numbering.{number, number_concl}
-use Rattle.ranges.specs.Bytes.{Outcome, got, refused, and_then}
+use Rattle.frames.specs.Bytes.{Outcome, got, refused, and_then}
 use Rattle.frames.specs.Frames.{Frame, frame, frame_length, extent}
-use Rattle.contents.specs.Records.{Record, enter, remove, confirm, preview, query, canon_record}
+use Rattle.reader.specs.Contents.{Record, enter, remove, confirm, preview, query, canon_record}
 use Rattle.reader.specs.Records.{framed, read_record, read_canonical}
-use Rattle.contents.specs.Requests.{fits}
+use Rattle.reader.specs.Found.{fits}
 use Rattle.exact.proofs.Exact.{record_extent}
 use Rattle.exact.proofs.CanonicalRecords.{canonical_got}
 use Rattle.machine.specs.Machine.{State, Step, changes, previews, asks, refuses, refuse, act, acted, step, stands, there}

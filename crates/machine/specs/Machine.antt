@@ -10,11 +10,11 @@ use Rattle.sorts.specs.declared.Refusal.{Refusal}
 use Rattle.rows.specs.Written.{Grant, same_written}
 use Rattle.rows.specs.Numbering.{number, number_concl}
 use Rattle.rows.specs.Form.{concl_of}
-use Rattle.ranges.specs.Bytes.{Outcome, got, refused}
+use Rattle.frames.specs.Bytes.{Outcome, got, refused}
 use Rattle.frames.specs.Frames.{extent}
-use Rattle.contents.specs.Records.{Record, enter, remove, confirm, preview, query}
+use Rattle.reader.specs.Contents.{Record, enter, remove, confirm, preview, query}
 use Rattle.reader.specs.Records.{read_canonical}
-use Rattle.contents.specs.Requests.{fits}
+use Rattle.reader.specs.Found.{fits}
 
 -- What stands: a grant with its status, trusted, issued by a principal, or issued provisionally.
 pub record Entry : Type 0 where

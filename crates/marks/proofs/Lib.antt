@@ -1,4 +1,4 @@
-pub mod Blocks
+pub mod WholeBlocks
 pub mod Halves
 pub mod Loops
 pub mod Net

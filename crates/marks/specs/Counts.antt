@@ -3,7 +3,7 @@
 -- lost", with a net for each.
 use Rattle.std.specs.Prelude.{ℕ, ◌+◌, cond, List, [], ◌∷◌, eqb, take, drop, pos, ◌-ℤ◌}
 use Rattle.sorts.specs.Numbers.{conclusions}
-use Rattle.blocks.specs.Gains.{gains}
+use Rattle.marks.specs.Gains.{gains}
 use Rattle.marks.specs.declared.Change.{Change}
 use Rattle.marks.specs.declared.Counts.{Counts}
 

@@ -2,6 +2,7 @@
 #![tactic(auto)]
 
 pub mod bits;
+mod blocks;
 pub mod renewal;
 pub mod standing;
 

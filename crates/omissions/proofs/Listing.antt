@@ -7,13 +7,13 @@ use native.Mathlib.Omega.{arith}
 use lib.ListN.{length, take, drop, length-append, take-append-drop}
 use lib.Dec.{eqb}
 use Rattle.bookform.specs.declared.Book.{Book}
-use Rattle.answer.specs.declared.Answer.{Answer}
-use Rattle.answer.specs.declared.Answer.TheVariants.{Permitted, Open, NotPermitted, Changed, Previewed, Refused}
+use Rattle.bookform.specs.declared.answer.Answer.{Answer}
+use Rattle.bookform.specs.declared.answer.Answer.TheVariants.{Permitted, Open, NotPermitted, Changed, Previewed, Refused}
 use Rattle.machine.specs.Machine.{start}
 use Rattle.bookform.specs.Books.{fresh_book, fresh_marks}
 use Rattle.book.specs.Chains.{Call}
 use Rattle.demands.proofs.Reached.{fresh_shows}
-use Rattle.places.specs.Places.{rest_after}
+use Rattle.journal.specs.Places.{rest_after}
 use Rattle.journal.specs.Journals.{Calls, ended, then}
 use Rattle.listings.specs.Listings.{read}
 use Rattle.listings.proofs.Listings.{fresh_lent}

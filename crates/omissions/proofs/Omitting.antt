@@ -13,17 +13,17 @@ use Rattle.exact.proofs.Framing.{frame_opens, opens_frame, extent_holds, extent_
 use Rattle.machine.specs.Machine.{State, Step, step}
 use Rattle.machine.proofs.Steps.{step_used, step_frame}
 use Rattle.bookform.specs.declared.Book.{Book}
-use Rattle.answer.specs.declared.Answer.{Answer}
-use Rattle.answer.specs.declared.Answer.TheVariants.{Permitted, Open, NotPermitted, Changed, Previewed, Refused}
-use Rattle.answer.specs.declared.Answered.{Answered}
+use Rattle.bookform.specs.declared.answer.Answer.{Answer}
+use Rattle.bookform.specs.declared.answer.Answer.TheVariants.{Permitted, Open, NotPermitted, Changed, Previewed, Refused}
+use Rattle.bookform.specs.declared.answer.Answered.{Answered}
 use Rattle.bookform.specs.Books.{Lent}
 use Rattle.book.specs.Shows.{Shows}
 use Rattle.book.specs.Calls.{Follows, Called}
 use Rattle.book.specs.Chains.{Call}
 use Rattle.demands.specs.Worth.{worth}
 use Rattle.demands.proofs.Demand1.{demand_1}
-use Rattle.places.specs.Places.{rest_after}
-use Rattle.pieces.specs.Words.{permitted, open_word, not_permitted}
+use Rattle.journal.specs.Places.{rest_after}
+use Rattle.lines.specs.Words.{permitted, open_word, not_permitted}
 use Rattle.journal.specs.Lines.{nets, said}
 use Rattle.journal.specs.Journals.{Calls, ended, then}
 use Rattle.listings.proofs.Ending.{left_long}

@@ -11,22 +11,22 @@ use Rattle.sorts.specs.Numbers.{number_of, speakers, principals, packs, grants, 
 use Rattle.rows.specs.Numbering.{number_concl}
 use Rattle.rows.specs.Form.{depth}
 use Rattle.rows.specs.Allowed.{AllowedConcl}
-use Rattle.ranges.specs.Bytes.{Outcome, got}
+use Rattle.frames.specs.Bytes.{Outcome, got}
 use Rattle.canon.specs.Canon.{canon}
 use Rattle.frames.specs.Frames.{extent}
-use Rattle.contents.specs.Records.{Record, query, canon_record}
+use Rattle.reader.specs.Contents.{Record, query, canon_record}
 use Rattle.reader.specs.Records.{read_record, read_canonical}
-use Rattle.contents.specs.Requests.{fits}
+use Rattle.reader.specs.Found.{fits}
 use Rattle.exact.specs.Writing.{AllowedRecord}
 use Rattle.exact.proofs.Exact.{record_read}
 use Rattle.exact.proofs.CanonicalRecords.{canonical_of}
 use Rattle.bookform.specs.declared.Book.{Book}
-use Rattle.answer.specs.declared.Answer.TheVariants.{Permitted}
-use Rattle.answer.specs.declared.Answered.{Answered}
+use Rattle.bookform.specs.declared.answer.Answer.TheVariants.{Permitted}
+use Rattle.bookform.specs.declared.answer.Answered.{Answered}
 use Rattle.machine.specs.Machine.{State, Step, asks, act, acted, step}
 use Rattle.bookform.specs.Books.{BookForm, Lent}
 use Rattle.book.specs.Shows.{Shows}
-use Rattle.answer.specs.Answers.{answer_at}
+use Rattle.bookform.specs.Answers.{answer_at}
 use Rattle.book.specs.Calls.{answer_of, Called}
 use Rattle.bookform.specs.Books.{fresh_marks}
 use Rattle.demands.proofs.ClosedBook.{shown}

@@ -12,8 +12,8 @@ use Rattle.sorts.specs.Numbers.{number_of, speakers, packs}
 use Rattle.machine.specs.Machine.{State, Step, start, feed}
 use Rattle.machine.specs.Closed as closed
 use Rattle.bookform.specs.declared.Book.{Book}
-use Rattle.answer.specs.declared.Answer.TheVariants.{Permitted}
-use Rattle.answer.specs.Answers.{answer_at}
+use Rattle.bookform.specs.declared.answer.Answer.TheVariants.{Permitted}
+use Rattle.bookform.specs.Answers.{answer_at}
 use Rattle.bookform.specs.Books.{fresh_book, fresh_marks}
 use Rattle.book.specs.Chains.{Call, Chain, records, runs}
 use Rattle.demands.specs.Demands.{Demand2}

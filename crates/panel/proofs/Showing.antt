@@ -8,10 +8,10 @@ use Rattle.std.specs.Prelude.{Ok, Err}
 use Rattle.sorts.specs.Numbers.{number_of, speakers}
 use Rattle.sorts.specs.declared.Refusal.{Refusal}
 use Rattle.bookform.specs.declared.Book.{Book}
-use Rattle.answer.specs.declared.Answer.{Answer}
-use Rattle.answer.specs.declared.Answer.TheVariants.{Permitted, Open, NotPermitted, Changed, Previewed, Refused}
+use Rattle.bookform.specs.declared.answer.Answer.{Answer}
+use Rattle.bookform.specs.declared.answer.Answer.TheVariants.{Permitted, Open, NotPermitted, Changed, Previewed, Refused}
 use Rattle.bookform.specs.Books.{BookForm}
-use Rattle.answer.specs.Answers.{answer_at}
+use Rattle.bookform.specs.Answers.{answer_at}
 use Rattle.panel.specs.declared.PackRight.{PackRight}
 use Rattle.panel.specs.declared.PackRight.TheVariants.{Run, Export}
 use Rattle.panel.specs.Panels.{conclusion_of, Packs, PanelOf}

@@ -6,9 +6,9 @@ use native.Mathlib.Nat.{not-suc-le-zero, le_of_suc-le-suc, lt_of_lt_of_le, div-e
 use native.Mathlib.Omega.{arith}
 use lib.Pow.{pow_mono}
 use Rattle.sorts.specs.Numbers.{number_of, packs}
-use Rattle.answer.specs.declared.Answer.{Answer}
-use Rattle.answer.specs.declared.Answer.TheVariants.{Permitted, Open, NotPermitted, Changed, Previewed, Refused}
-use Rattle.answer.specs.Answers.{answer_at}
+use Rattle.bookform.specs.declared.answer.Answer.{Answer}
+use Rattle.bookform.specs.declared.answer.Answer.TheVariants.{Permitted, Open, NotPermitted, Changed, Previewed, Refused}
+use Rattle.bookform.specs.Answers.{answer_at}
 use Rattle.panel.specs.declared.PackRight.{PackRight}
 use Rattle.panel.specs.Panels.{conclusion_of, bit}
 use Rattle.panel.specs.Inner.Words.{one_for, pack_bit, WordFrom, WordOf}

@@ -7,11 +7,11 @@ use Rattle.sorts.specs.declared.Refusal.TheVariants as refusal
 use Rattle.rows.specs.Written as written
 use Rattle.rows.specs.Written.{perm, run, export}
 use Rattle.rows.specs.Form.{concl_of}
-use Rattle.contents.specs.Records.{query}
+use Rattle.reader.specs.Contents.{query}
 use Rattle.exact.specs.Writing.{written_record}
 use Rattle.bookform.specs.declared.Book.{Book}
-use Rattle.answer.specs.declared.Answer.TheVariants.{Permitted}
-use Rattle.answer.specs.declared.Answered.{Answered}
+use Rattle.bookform.specs.declared.answer.Answer.TheVariants.{Permitted}
+use Rattle.bookform.specs.declared.answer.Answered.{Answered}
 use Rattle.machine.specs.Machine.{State}
 use Rattle.machine.specs.Closed.{Choice, Lacking}
 use Rattle.machine.specs.Choices.{AlwaysStands}

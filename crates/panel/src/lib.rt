@@ -3,12 +3,12 @@
 
 ghost use Rattle.std.specs.Prelude.{◌≡◌, ◌<◌, length};
 ghost use Rattle.sorts.specs.Numbers.{number_of, speakers, packs, all_marks};
-ghost use Rattle.answer.specs.Answers.{answer_at};
+ghost use Rattle.bookform.specs.Answers.{answer_at};
 ghost use Rattle.panel.specs.Panels.{conclusion_of, PanelOf};
 ghost use Rattle.panel.specs.Inner.Words.{one_for, Admitted, WordOf};
 
-use answer::Answer;
-use bookform::Book;
+use bookform::answer::Answer;
+use bookform::{Book, answer};
 use sorts::{Concl, Pack, Prin, Refusal, Res};
 
 // The two rights over packs, which the definitions name; a closure that makes the conclusion would be told of in each contract.

@@ -5,7 +5,7 @@ use Rattle.sorts.specs.declared.Refusal.TheVariants.{Length}
 use Rattle.sorts.specs.Refusals.{refusal_number}
 use Rattle.bookform.specs.declared.Book.{Book}
 use Rattle.bookform.specs.Books.{fresh_marks}
-use Rattle.places.specs.Places.{longest_journal}
+use Rattle.journal.specs.Places.{longest_journal}
 use Rattle.journal.specs.declared.Left.{Left}
 use Rattle.journal.specs.Journals.{Leaves}
 use Rattle.panel.specs.declared.Panel.{Panel}

@@ -4,7 +4,7 @@
 ghost use Rattle.std.specs.Prelude.{◌≡◌, ◌++◌};
 ghost use Rattle.panel_boundary.specs.Crossing.{bytes_of, JournalLeft, JournalPanel, Crossed, JournalPreview};
 
-use journal::Left;
+use journal::{Left, places};
 use panel::Panel;
 use sorts::{Number, Refusal};
 

@@ -15,15 +15,15 @@ use Rattle.sorts.specs.declared.Refusal.{Refusal}
 use Rattle.rows.specs.Numbering.{number, number_concl}
 use Rattle.rows.specs.Form.{concl_of}
 use Rattle.rows.proofs.Bytes.{no_true}
-use Rattle.ranges.specs.Bytes.{Outcome, got, refused}
+use Rattle.frames.specs.Bytes.{Outcome, got, refused}
 use Rattle.frames.specs.Frames.{extent}
-use Rattle.contents.specs.Records.{Record, enter, remove, confirm, preview, query}
+use Rattle.reader.specs.Contents.{Record, enter, remove, confirm, preview, query}
 use Rattle.reader.specs.Records.{read_canonical}
-use Rattle.contents.specs.Requests.{fits}
+use Rattle.reader.specs.Found.{fits}
 use Rattle.exact.specs.Writing.{AllowedRecord}
 use Rattle.exact.proofs.CanonicalRecords.{canonical_exact}
 use Rattle.bookform.specs.declared.Book.{Book}
-use Rattle.answer.specs.declared.Answered.{Answered}
+use Rattle.bookform.specs.declared.answer.Answered.{Answered}
 use Rattle.machine.specs.Machine.{State, Step, Verdict, changes, previews, asks, refuses, refuse, start, act, acted, step, feed, stands, there}
 use Rattle.machine.specs.Closed.{none, all, Stands, Lacking}
 use Rattle.machine.specs.Choices.{AlwaysStands, NeverStands, Undecided}

@@ -17,7 +17,7 @@ use Rattle.sorts.specs.Blank.{blank_cond}
 use Rattle.rules.specs.Rules.{granted, condition, issue_mark, first_values, second_values, resource_values, Values, Met}
 use Rattle.rules.specs.Standing.{All, In, each}
 use Rattle.machine.specs.Machine.{State}
-use Rattle.flags.specs.Changes.{bit}
+use Rattle.bookform.specs.Changes.{bit}
 use Rattle.machine.specs.Closed.{row_at, ClosedSet, Stands, Lacking}
 use Rattle.query.specs.Figures.{Chosen, Said, same_said, Condition, said_under}
 use Rattle.query.specs.Query.{InSaid, InTruth, sayings, Formed}

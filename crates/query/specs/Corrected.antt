@@ -4,8 +4,8 @@ use Rattle.sorts.specs.Numbers.{said_mark, conclusions}
 use Rattle.rules.specs.Standing.{All}
 use Rattle.machine.specs.Machine.{State}
 use Rattle.machine.specs.Closed.{Choice, ClosedSet, Stands, Lacking}
-use Rattle.answer.specs.declared.Answer.{Answer}
-use Rattle.answer.specs.declared.Answer.TheVariants.{Permitted, Open, NotPermitted}
+use Rattle.bookform.specs.declared.answer.Answer.{Answer}
+use Rattle.bookform.specs.declared.answer.Answer.TheVariants.{Permitted, Open, NotPermitted}
 use Rattle.query.specs.Figures.{Chosen, Said, Condition, holds2}
 use Rattle.query.specs.Query.{InTruth, InSaid, Single, sayings, said_within, query_within, implied, holds}
 

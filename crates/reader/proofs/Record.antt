@@ -16,14 +16,14 @@ use Rattle.sorts.specs.declared.Refusal.TheVariants as refusal
 use Rattle.rows.specs.declared.Table.{Table}
 use Rattle.rows.specs.Written.{Grant}
 use Rattle.rows.specs.Form.{rows_out, TableForm}
-use Rattle.ranges.specs.Bytes.{Outcome, got, refused, and_then}
+use Rattle.frames.specs.Bytes.{Outcome, got, refused, and_then}
 use Rattle.frames.specs.Frames.{Frame, holds, ends, frame, frame_length, extent}
-use Rattle.contents.specs.declared.Request.{Request}
-use Rattle.contents.specs.declared.Reading.{Reading}
-use Rattle.contents.specs.Records.{Record, enter, remove, confirm, preview, query, read_content, canon_record}
-use Rattle.contents.specs.Requests.{number_found, found_of, numbered_by, TurnedBack}
-use Rattle.contents.specs.Inner.Numbered.{no_r, num_content}
-use Rattle.contents.proofs.Contents.{RightReading, Right, fault, whole, Keeps, in_form, content_right, content_keeps, found_number}
+use Rattle.reader.specs.declared.contents.Request.{Request}
+use Rattle.reader.specs.declared.contents.Reading.{Reading}
+use Rattle.reader.specs.Contents.{Record, enter, remove, confirm, preview, query, read_content, canon_record}
+use Rattle.reader.specs.Found.{number_found, found_of, numbered_by, TurnedBack}
+use Rattle.reader.specs.Inner.Numbered.{no_r, num_content}
+use Rattle.reader.proofs.contents.Contents.{RightReading, Right, fault, whole, Keeps, in_form, content_right, content_keeps, found_number}
 use Rattle.reader.specs.Records.{beyond, fitted, read_whole, framed, read_record, read_canonical}
 use Rattle.reader.specs.Requests.{Reads}
 use Rattle.reader.specs.Inner.OneRecord.{num_whole, num_framed, num_record}

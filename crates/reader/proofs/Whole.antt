@@ -6,7 +6,7 @@ use lib.ListN.{length}
 use Rattle.rows.specs.declared.Table.{Table}
 use Rattle.frames.specs.declared.Kind.{Kind}
 use Rattle.frames.specs.Frames.{holds, ends, frame}
-use Rattle.contents.specs.Inner.Numbered.{no_r, num_content}
+use Rattle.reader.specs.Inner.Numbered.{no_r, num_content}
 use Rattle.reader.specs.Inner.OneRecord.{num_whole, num_framed, num_record}
 use Rattle.sorts.specs.declared.Refusal.{Refusal}
 

@@ -1,9 +1,9 @@
 -- A whole record: its content, read in its frame.
 use Rattle.std.specs.Prelude.{ℕ, cond, List, length, eqb}
-use Rattle.ranges.specs.Bytes.{Outcome, got, refused, and_then}
+use Rattle.frames.specs.Bytes.{Outcome, got, refused, and_then}
 use Rattle.frames.specs.declared.Kind.{Kind}
 use Rattle.frames.specs.Frames.{Frame, holds, ends, frame, frame_length}
-use Rattle.contents.specs.Records.{Record, read_content, canon_record}
+use Rattle.reader.specs.Contents.{Record, read_content, canon_record}
 use Rattle.sorts.specs.declared.Refusal.TheVariants as refusal
 use Rattle.sorts.specs.declared.Refusal.{Refusal}
 

@@ -6,8 +6,8 @@ use Rattle.sorts.specs.declared.Refusal.TheVariants as refusal
 use Rattle.rows.specs.declared.Table.{Table}
 use Rattle.rows.specs.Form.{rows_out, TableForm}
 use Rattle.frames.specs.Frames.{extent}
-use Rattle.contents.specs.declared.Reading.{Reading}
-use Rattle.contents.specs.Requests.{number_found, found_of, numbered_by, numbers, TurnedBack}
+use Rattle.reader.specs.declared.contents.Reading.{Reading}
+use Rattle.reader.specs.Found.{number_found, found_of, numbered_by, numbers, TurnedBack}
 use Rattle.reader.specs.Records.{read_canonical}
 use Rattle.reader.specs.Inner.OneRecord.{num_record}
 

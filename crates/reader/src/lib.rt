@@ -1,4 +1,5 @@
 // The reader of records.
 #![tactic(auto)]
 
+pub mod contents;
 pub mod records;

@@ -1,12 +1,13 @@
 // Whole records: what a record asks, read from the content of its frame.
 ghost use Rattle.std.specs.Prelude.{◌≡◌, ◌≤◌, length};
 ghost use Rattle.frames.specs.Inner.Told.{longest};
-ghost use Rattle.contents.specs.Inner.Numbered.{num_content};
+ghost use Rattle.reader.specs.Inner.Numbered.{num_content};
 ghost use Rattle.reader.specs.Records.{beyond};
 ghost use Rattle.reader.specs.Requests.{Reads};
 ghost use Rattle.reader.specs.Inner.OneRecord.{num_whole};
 
-use contents::Reading;
+use crate::contents;
+use crate::contents::Reading;
 use frames::Kind;
 use rows::{Numbering, Table};
 use sorts::Refusal;

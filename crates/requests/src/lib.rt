@@ -1,13 +1,16 @@
 // What was read of a record, done.
 #![tactic(auto)]
 
+mod renewing;
+mod revising;
+
 ghost use Rattle.std.specs.Prelude.{◌≡◌};
-ghost use Rattle.renewing.specs.Inner.Buffers.{firm_marks, both_marks};
+ghost use Rattle.requests.specs.Inner.Buffers.{firm_marks, both_marks};
 ghost use Rattle.requests.specs.Inner.Apply.{Ready, done, applied, marks_applied, preview_applied};
 
-use answer::{Answer, Answered, refuse};
-use bookform::Book;
-use contents::{Reading, Request};
+use bookform::answer::{Answer, Answered, refuse};
+use bookform::{Book, answer};
+use reader::contents::{Reading, Request};
 use sorts::{Number, Refusal};
 
 // What a record asks, done: the book after it and the answer, or why it is refused. Here and below each buffer is handed on by itself, as in

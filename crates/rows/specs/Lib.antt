@@ -4,3 +4,4 @@ pub mod Form
 pub mod Numbers
 pub mod Allowed
 pub mod Inner
+pub mod Words

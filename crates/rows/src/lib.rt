@@ -1,6 +1,8 @@
 // The grant table: the rows by number, looking a row up, and giving a new row the lowest number not given.
 #![tactic(auto)]
 
+pub mod rowwords;
+
 ghost use Rattle.std.specs.Prelude.{◌≡◌, ◌≤◌, ◌<◌};
 ghost use Rattle.sorts.specs.Numbers.{grants};
 ghost use Rattle.rows.specs.Inner.Lookup.{find_row, entered};

@@ -2,3 +2,5 @@
 pub mod Bits
 pub mod Kinds
 pub mod Layout
+pub mod Flags
+pub mod Marks

@@ -2,4 +2,6 @@
 #![tactic(auto)]
 
 pub mod bits;
+pub mod flagwords;
+pub mod markwords;
 pub mod place;

@@ -16,7 +16,7 @@ use Rattle.rules.specs.Standing.{All, Some, Rule, ClosedRules, In, Bits, blank}
 use Rattle.rules.proofs.Lists.{met_map}
 use Rattle.rules.proofs.Saturation.{in_set, in_set_cases, bits_set, same_marks}
 use Rattle.rules.proofs.Standing.{blank_length, blank_bits, blank_none}
-use Rattle.contents.specs.Requests.{fits}
+use Rattle.reader.specs.Found.{fits}
 use Rattle.machine.specs.Machine.{State}
 use Rattle.machine.specs.Closed.{ClosedSet, Stands, Lacking}
 use Rattle.marks.specs.Counts.{Statements, truths, sayings, ones, marks_of as kind_marks}

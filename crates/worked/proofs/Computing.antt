@@ -2,11 +2,11 @@
 use Rattle.rows.specs.Written.{written, written_conds, written_concl, written_right, same_bytes, same_written}
 use Rattle.rows.specs.Numbering.{place, has, add, number, number_conds, number_concl, number_right}
 use Rattle.rows.specs.Form.{conds_of, row_of}
-use Rattle.ranges.specs.Bytes.{byte_at, upto, principal, pack, tag, header}
+use Rattle.frames.specs.Bytes.{byte_at, upto, principal, pack, tag, header}
 use Rattle.grants.specs.Grants.{read_property, read_packed, read_issue, read_concl, read_conds, read_with, read_grant}
 use Rattle.canon.specs.Canon.{order, cond_bytes, order_cond, canon, insert as put}
 use Rattle.frames.specs.Frames.{kind_with, read_mark, frame, extent}
-use Rattle.contents.specs.Records.{read_entry, read_licence, read_query, read_content}
+use Rattle.reader.specs.Contents.{read_entry, read_licence, read_query, read_content}
 use Rattle.reader.specs.Records.{read_whole, read_record, read_canonical}
 use Rattle.exact.specs.Writing.{in_frame, written_record}
 use Rattle.rules.specs.Rules.{res_under, concl_under, granted, condition}

@@ -24,7 +24,7 @@ use Rattle.rules.specs.Rules.{Set, Closed, Values, granted, first_values, second
 use Rattle.rules.specs.Standing.{Rule, Kept, ClosedRules, each, on, needs_of, spoken, spoken_at, trusted, fired, at, at_xy, at_x, of_row, ground}
 use Rattle.rules.proofs.Lists.{each_all, all_each, on_all, all_join}
 use Rattle.rules.proofs.Ground.{ground_at, closed_ground, closed_fewer}
-use Rattle.flags.specs.Changes.{bit}
+use Rattle.bookform.specs.Changes.{bit}
 use Rattle.machine.specs.Machine.{Entry, State, member, entry}
 use Rattle.machine.specs.Closed.{grant_at, row_at, StandsAs, all, Licensed, ClosedSet}
 use Rattle.demands.proofs.Views.{View, firm, both, choice_of}

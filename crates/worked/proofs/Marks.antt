@@ -6,12 +6,12 @@ use native.Mathlib.Nat.{add-zero, add-suc}
 use native.Mathlib.Omega.{arith}
 use lib.ListN.{length}
 use lib.IntN.{ℤ, pos, negsuc, pred_ℤ, neg_ℤ, ◌+ℤ◌, ◌-ℤ◌, pred-suc, suc_ℤ-+ℤ, +ℤ-pred_ℤ}
-use Rattle.contents.specs.Records.{Record}
+use Rattle.reader.specs.Contents.{Record}
 use Rattle.exact.specs.Writing.{written_record}
 use Rattle.rules.specs.Standing.{Bits}
 use Rattle.rules.proofs.Saturation.{same_marks}
 use Rattle.machine.specs.Machine.{State, start}
-use Rattle.blocks.specs.Gains.{gains}
+use Rattle.marks.specs.Gains.{gains}
 use Rattle.marks.specs.Counts.{Statements, truths, sayings, ones, marks_of, change_of, counts_of, change_in}
 use Rattle.book.specs.Chains.{Fed, runs}
 use Rattle.demands.proofs.Balance.{balance, kind_length, kind_bits}

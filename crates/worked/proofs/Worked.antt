@@ -8,7 +8,7 @@ use lib.IntN.{ℤ, pos, negsuc, ◌-ℤ◌}
 use lib.ListN.{length}
 use Rattle.rows.specs.Written.{same_written}
 use Rattle.rows.proofs.Bytes.{same_eq}
-use Rattle.contents.specs.Records.{Record}
+use Rattle.reader.specs.Contents.{Record}
 use Rattle.machine.specs.Machine.{State, Verdict, changes, previews, asks, refuses, start}
 use Rattle.machine.proofs.Choices.{permitted_none, not_permitted_all, open_both}
 use Rattle.marks.specs.Counts.{Statements, truths, sayings, counts_of, change_in}

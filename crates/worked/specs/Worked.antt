@@ -7,7 +7,7 @@ use Rattle.sorts.specs.Numbers.{number_of, all_marks}
 use Rattle.rows.specs.Written.{Grant, Concl, grant, none, also, property, perm, issue, issue_any, run, export}
 use Rattle.rows.specs.Form.{concl_of}
 use Rattle.canon.specs.Canon.{canon, canon_concl}
-use Rattle.contents.specs.Records.{Record, enter, remove, confirm, preview, query}
+use Rattle.reader.specs.Contents.{Record, enter, remove, confirm, preview, query}
 use Rattle.exact.specs.Writing.{written_record}
 use Rattle.machine.specs.Machine.{State, Step, Verdict, changes, previews, start, feed}
 use Rattle.machine.specs.Closed.{Stands, none as none_chosen}

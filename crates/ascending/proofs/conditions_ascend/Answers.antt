@@ -10,7 +10,7 @@ use Rattle.rows.specs.declared.Table.{Table}
 use Rattle.rows.specs.Form.{TableForm}
 use Rattle.rows.proofs.Deciding.{each_more}
 use Rattle.canon.specs.RowOrder.{Ascends}
-use Rattle.rowwords.specs.Words.{row_word}
+use Rattle.rows.specs.Words.{row_word}
 use Rattle.ascending.specs.Inner.Words.{Told, NextAbove}
 use Rattle.ascending.proofs.Comparing.{counted}
 use Rattle.ascending.proofs.Places.{Worded, worded_more}

@@ -5,7 +5,7 @@ use Rattle.sorts.specs.declared.Cond.{Cond}
 use Rattle.sorts.specs.declared.Row.{Row}
 use Rattle.sorts.specs.Blank.{blank_cond}
 use Rattle.canon.specs.Canon.{and_then}
-use Rattle.rowwords.specs.Words.{cond_word}
+use Rattle.rows.specs.Words.{cond_word}
 
 -- Word k of row i.
 abbrev pub word : List (List ℕ) → ℕ → ℕ → ℕ

@@ -5,8 +5,8 @@ use Rattle.sorts.specs.Numbers.{depths}
 use Rattle.sorts.specs.declared.GrantNo.{GrantNo}
 use Rattle.sorts.specs.declared.Concl.{Concl}
 use Rattle.rows.specs.declared.Numbering.{Numbering}
-use Rattle.ranges.specs.declared.Scope.{Scope}
-use Rattle.ranges.specs.Bytes.{Outcome, got}
+use Rattle.frames.specs.declared.ranges.Scope.{Scope}
+use Rattle.frames.specs.Bytes.{Outcome, got}
 use Rattle.grants.specs.Inner.OnePass.{Numbered, over, onward, num_grant, num_concl}
 use Rattle.canon.specs.Most.{most_grant, most_concl}
 use Rattle.canonwrite.specs.Buffer.{put_concl, put_grant}

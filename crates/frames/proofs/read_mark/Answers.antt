@@ -1,5 +1,5 @@
 use Rattle.std.proofs.Common.{rules, sym, ap}
-use Rattle.ranges.specs.Bytes.{as_result}
+use Rattle.frames.specs.Bytes.{as_result}
 use Rattle.frames.proofs.Marks.{mark_short, mark_long}
 use Rattle.frames.proofs.read_mark.Goals as goal
 

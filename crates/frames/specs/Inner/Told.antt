@@ -3,7 +3,7 @@ use Rattle.std.specs.Prelude.{ℕ, ◌≤◌, ◌≡◌, List, length, get_or, R
 use Rattle.std.specs.Borrow.{Bor}
 use Rattle.sorts.specs.declared.Refusal.{Refusal}
 use Rattle.frames.specs.declared.Kind.{Kind}
-use Rattle.ranges.specs.Bytes.{got, refused}
+use Rattle.frames.specs.Bytes.{got, refused}
 use Rattle.frames.specs.Frames.{Frame, holds, ends, kinds, kind_with}
 
 -- the kind that two letters say

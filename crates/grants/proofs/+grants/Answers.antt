@@ -2,7 +2,7 @@ use Prim.Native.Nat.{◌+◌, ◌-◌}
 use mathlib.Core.Path.{◌≡◌}
 use native.Mathlib.Omega.{arith}
 use Rattle.grants.specs.Inner.OnePass.{num_with}
-use Rattle.ranges.proofs.Answers.{was_got}
+use Rattle.frames.proofs.ranges.Answers.{was_got}
 use Rattle.grants.proofs.Found.{header_found}
 use Rattle.grants.proofs.Steps.{plain, along, further, on_got, goes, stops, grant_step, conds_step_lem}
 use Rattle.grants.proofs.+grants.Goals as goal

@@ -12,9 +12,9 @@ use Rattle.sorts.specs.declared.Refusal.TheVariants.{Depth}
 use Rattle.sorts.specs.Blank.{blank_cond}
 use Rattle.rows.specs.declared.Numbering.{Numbering}
 use Rattle.rows.specs.Inner.Lookup.{Entered, entered}
-use Rattle.ranges.specs.declared.Scope.{Scope}
-use Rattle.ranges.specs.declared.Cursor.{Cursor}
-use Rattle.ranges.specs.Bytes.{Outcome, got, refused, and_then, as_read, upto, principal, pack, tag, header}
+use Rattle.frames.specs.declared.ranges.Scope.{Scope}
+use Rattle.frames.specs.declared.ranges.Cursor.{Cursor}
+use Rattle.frames.specs.Bytes.{Outcome, got, refused, and_then, as_read, upto, principal, pack, tag, header}
 
 -- What a reader leaves: the numbering, and what it found.
 pub record Numbered (A : Type 0) : Type 0 where

@@ -3,7 +3,7 @@ use native.Mathlib.Omega.{arith}
 use borrow.Author.Rules.{rules}
 use Rattle.bookform.specs.Books.{fresh_marks}
 use Rattle.journal.proofs.Rests.{call_rest}
-use Rattle.places.proofs.Places.{next_further}
+use Rattle.journal.proofs.places.Places.{next_further}
 use Rattle.journal.proofs.Leaving.{to_none, to_next, to_end}
 use Rattle.journal.proofs.left_by.Goals as goal
 

@@ -1,7 +1,7 @@
 use Rattle.std.proofs.Common.{◌+◌, arith, rules, refl}
 use Rattle.std.specs.Io.KnownBytes.{Appends}
 use Rattle.bookform.specs.Books.{fresh_marks}
-use Rattle.places.proofs.Places.{next_further}
+use Rattle.journal.proofs.places.Places.{next_further}
 use Rattle.lines.specs.Pieces.{line_pieces, joined}
 use Rattle.listings.proofs.Reading.{read_none, read_step, step_follows, end_follows, read_ran}
 use Rattle.listing.proofs.Writing.{took_none, took_more, took_last}

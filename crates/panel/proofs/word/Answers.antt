@@ -2,7 +2,7 @@ use mathlib.Core.Path.{ap, ◌∙◌}
 use borrow.Author.Rules.{rules}
 use Rattle.sorts.specs.declared.Concl.{Concl}
 use Rattle.sorts.specs.Numbers.{number_of}
-use Rattle.answer.specs.Answers.{answer_at}
+use Rattle.bookform.specs.Answers.{answer_at}
 use Rattle.panel.specs.Inner.Words.{one_for}
 use Rattle.panel.proofs.Words.{word_next}
 use Rattle.panel.proofs.word.Goals as goal

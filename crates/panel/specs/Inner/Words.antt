@@ -5,9 +5,9 @@ use Rattle.sorts.specs.declared.Refusal.TheVariants as refusal
 use Rattle.sorts.specs.declared.Refusal.{Refusal}
 use Rattle.bookform.specs.declared.Book.{Book}
 use Rattle.bookform.specs.Books.{BookForm}
-use Rattle.answer.specs.declared.Answer.{Answer}
-use Rattle.answer.specs.declared.Answer.TheVariants.{Permitted, Open, NotPermitted, Changed, Previewed, Refused}
-use Rattle.answer.specs.Answers.{answer_at}
+use Rattle.bookform.specs.declared.answer.Answer.{Answer}
+use Rattle.bookform.specs.declared.answer.Answer.TheVariants.{Permitted, Open, NotPermitted, Changed, Previewed, Refused}
+use Rattle.bookform.specs.Answers.{answer_at}
 use Rattle.panel.specs.declared.PackRight.{PackRight}
 use Rattle.panel.specs.Panels.{conclusion_of, bit}
 

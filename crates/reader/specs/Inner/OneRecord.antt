@@ -3,8 +3,8 @@ use Rattle.std.specs.Prelude.{ℕ, ◌+◌, List, cond, length, eqb, Result, Ok,
 use Rattle.reader.specs.Records.{beyond}
 use Rattle.rows.specs.declared.Table.{Table}
 use Rattle.frames.specs.Frames.{Frame, holds, ends, frame}
-use Rattle.contents.specs.declared.Reading.{Reading}
-use Rattle.contents.specs.Inner.Numbered.{no_r, num_content}
+use Rattle.reader.specs.declared.contents.Reading.{Reading}
+use Rattle.reader.specs.Inner.Numbered.{no_r, num_content}
 use Rattle.sorts.specs.declared.Refusal.{Refusal}
 use Rattle.sorts.specs.declared.Refusal.TheVariants as refusal
 

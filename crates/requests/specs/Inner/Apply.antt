@@ -4,17 +4,17 @@ use Rattle.sorts.specs.declared.Status.TheVariants.{Issued, Provisional}
 use Rattle.sorts.specs.Numbers.{number_of, all_marks}
 use Rattle.sorts.specs.declared.Refusal.{Refusal}
 use Rattle.rows.specs.declared.Table.{Table}
-use Rattle.contents.specs.declared.Request.{Request}
-use Rattle.contents.specs.declared.Request.TheVariants.{Enter, Remove, Confirm, Preview, Query}
-use Rattle.contents.specs.declared.Reading.{Reading}
+use Rattle.reader.specs.declared.contents.Request.{Request}
+use Rattle.reader.specs.declared.contents.Request.TheVariants.{Enter, Remove, Confirm, Preview, Query}
+use Rattle.reader.specs.declared.contents.Reading.{Reading}
 use Rattle.rules.specs.Rules.{RowsForm}
-use Rattle.flags.specs.Changes.{is_set, there_flags}
+use Rattle.bookform.specs.Changes.{is_set, there_flags}
 use Rattle.bookform.specs.declared.Book.{Book}
-use Rattle.renewing.specs.Inner.Buffers.{firm_marks}
-use Rattle.answer.specs.declared.Answer.{Answer}
-use Rattle.answer.specs.declared.Answered.{Answered}
-use Rattle.answer.specs.Inner.Answering.{refused_with, queried}
-use Rattle.revising.specs.Inner.Revising.{changed_to, entered_book, removed_book, removed, confirmed, previewed}
+use Rattle.requests.specs.Inner.Buffers.{firm_marks}
+use Rattle.bookform.specs.declared.answer.Answer.{Answer}
+use Rattle.bookform.specs.declared.answer.Answered.{Answered}
+use Rattle.bookform.specs.Inner.Answering.{refused_with, queried}
+use Rattle.requests.specs.Inner.Revising.{changed_to, entered_book, removed_book, removed, confirmed, previewed}
 
 -- the book after it and the answer, or the refusal
 abbrev pub done_to : Book → List ℕ → List ℕ → Table → Result Request Refusal → Result (Book × Answer) Refusal

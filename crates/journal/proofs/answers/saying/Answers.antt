@@ -1,8 +1,8 @@
 use mathlib.Core.Path.{sym, subst, ap, ◌∙◌}
 use mathlib.Core.List.{◌++◌}
 use Rattle.journal.specs.Lines.{said}
-use Rattle.pieces.specs.Words.{newline}
-use Rattle.answer.specs.declared.Answer.{Answer}
+use Rattle.lines.specs.Words.{newline}
+use Rattle.bookform.specs.declared.answer.Answer.{Answer}
 use Rattle.journal.specs.Lines.{Opened}
 use Rattle.journal.proofs.Joining.{permitted_joined, open_joined, not_permitted_joined, changed_joined, previewed_joined, refusal_joined}
 use Rattle.journal.proofs.answers.saying.Goals as goal

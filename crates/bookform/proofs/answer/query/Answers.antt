@@ -1,0 +1,4 @@
+use Rattle.bookform.proofs.answer.query.Goals as goal
+
+pub returns : goal.returns
+returns c = rw c.answer_for.ensures

@@ -1,3 +1,0 @@
-pub mod Records
-pub mod Requests
-pub mod Inner

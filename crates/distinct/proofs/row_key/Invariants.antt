@@ -1,6 +1,0 @@
-use mathlib.Core.Path.{◌≡◌}
-use Rattle.distinct.specs.Inner.Keys.{digits}
-use Rattle.distinct.proofs.row_key.Given as goal
-
-abbrev pub invariant-loop-w : goal.invariant-loop-w
-invariant-loop-w l = l.k ≡ digits l.fn.x l.w-index

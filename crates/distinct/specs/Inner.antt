@@ -1,2 +1,0 @@
--- Definitions that only the contracts of inner functions cite.
-pub mod Keys

@@ -1,3 +1,0 @@
-pub mod Both
-pub mod Changes
-pub mod Inner

@@ -1,7 +1,0 @@
-use Rattle.std.proofs.Common.{take}
-use Rattle.digits.specs.Decimals.{decimal}
-use Rattle.pieces.specs.Pieces.{each}
-use Rattle.output.proofs.write_digits.Given as goal
-
-abbrev pub invariant-loop-i : goal.invariant-loop-i
-invariant-loop-i g l = g.P.PieceOutput.took l.fn.out l.out (each (take l.i (decimal l.n)))

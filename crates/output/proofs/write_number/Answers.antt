@@ -1,6 +1,0 @@
-use Rattle.std.proofs.Common.{refl}
-use Rattle.output.proofs.Taking.{at_last}
-use Rattle.output.proofs.write_number.Goals as goal
-
-pub returns : goal.returns
-returns g c = at_last g.P.PieceOutput.took g.met.P.PieceOutput.took_more _ _ _ _ _ _ c.put.result refl c.in_ok-write_digits.ensures c.put.ensures

@@ -1,7 +1,0 @@
-use native.Mathlib.Omega.{arith}
-use Rattle.rowwords.specs.Words.{cond_word, cond_key, concl_word}
-use Rattle.rowwords.proofs.cond_word.Goals as goal
-
-pub returns : goal.returns
-unfolding cond_word cond_key concl_word
-returns c = omega (arith, c.concl_word.ensures.0)

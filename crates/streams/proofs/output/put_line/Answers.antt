@@ -1,0 +1,22 @@
+use Rattle.std.proofs.Common.{[], ◌∷◌, append_assoc}
+use Rattle.lines.specs.Decimals.{decimal}
+use Rattle.lines.specs.Words.{space}
+use Rattle.lines.specs.Numerals.{each}
+use Rattle.lines.specs.Pieces.{said_pieces, line_pieces}
+use Rattle.streams.proofs.output.Taking.{at_last}
+use Rattle.streams.proofs.output.put_line.Goals as goal
+
+pub returns-in_ok-write_number-in-Record : goal.returns-in_ok-write_number-in-Record
+unfolding line_pieces
+returns-in_ok-write_number-in-Record g c =
+    rw c.in-Record.is
+    (at_last g.P.PieceOutput.took g.met.P.PieceOutput.took_more _ _ _ _ _ _ c.write_said.result (append_assoc (each (decimal _)) (space ∷ []) (said_pieces _)) c.in_ok-write_number-in-Record.ensures
+    c.write_said.ensures)
+
+pub returns-in-End : goal.returns-in-End
+unfolding line_pieces
+returns-in-End g c = rw c.in-End.is c.write_end.ensures
+
+pub returns-in-Refused : goal.returns-in-Refused
+unfolding line_pieces
+returns-in-Refused g c = rw c.in-Refused.is c.write_refusal.ensures

@@ -1,0 +1,13 @@
+use Rattle.std.proofs.Common.{rules, arith, subst, [], ◌∷◌}
+use Rattle.lines.specs.Decimals.{decimal}
+use Rattle.streams.proofs.output.Taking.{each_none, each_more}
+use Rattle.streams.proofs.output.write_digits.Goals as goal
+
+pub loop-i-init : goal.loop-i-init
+loop-i-init g c = subst (g.P.PieceOutput.took _ _) (each_none (decimal c.args.n)) (g.met.P.PieceOutput.took_none _)
+
+pub loop-i-preserved : goal.loop-i-preserved
+loop-i-preserved g c =
+    let one : g.P.PieceOutput.took c.loop-i.out c.put.new.self ((c.digit.result ∷ []) ∷ []) = search rules in
+    subst (g.P.PieceOutput.took _ _) (each_more _ _ _ (omega (arith, c.loop-i-test.true, c.count-d.ensures.0)) c.digit.ensures)
+    (g.met.P.PieceOutput.took_more _ _ _ _ _ c.loop-i.invariant one)

@@ -1,0 +1,5 @@
+// An input read to its end, and a line written piece by piece, with what failed told.
+#![tactic(auto)]
+
+pub mod input;
+pub mod output;
