@@ -6,7 +6,7 @@ use mathlib.Core.Logic.{◌⊎◌, inl, inr}
 use native.Mathlib.Omega.{arith}
 use lib.Dec.{eqb}
 use borrow.Author.Tests.{eqb-false}
-use Rattle.sorts.specs.Numbers.{grants}
+use Rattle.sorts.specs.Numbers.{grants, item_var}
 use Rattle.sorts.specs.declared.Prin.{Prin}
 use Rattle.sorts.specs.declared.Pack.{Pack}
 use Rattle.sorts.specs.declared.Res.{Res}
@@ -33,8 +33,8 @@ pack_byte : (s : ℕ) (n : Pack) → PackForm s n → n.0 < 256
 pack_byte s n (inl h) = omega arith
 pack_byte s n (inr h) = omega arith
 
-variable_or_not : (g : ℕ) → cond (eqb g 128) 1 0 ≤ 1
-variable_or_not g = go (eqb g 128)
+variable_or_not : (g : ℕ) → cond (eqb g item_var) 1 0 ≤ 1
+variable_or_not g = go (eqb g item_var)
   where
     go : (b : Bool) → cond b 1 0 ≤ 1
     go true = omega arith
@@ -56,12 +56,12 @@ concl_key_lem n v s (Perm p x) a = (res_key_lem n s p.0 x (prin_byte v p a.0) a.
 pub concl_inner_lem : (n v s : ℕ) (e : Concl) → ConclForm n v s e → concl_inner e ≤ n
 unfolding concl_inner res_inner
 concl_inner_lem n v s (Property k p) a = omega arith
-concl_inner_lem n v s (Perm p (Issue g)) a = go (eqb g.0 128) refl a.1
+concl_inner_lem n v s (Perm p (Issue g)) a = go (eqb g.0 item_var) refl a.1
   where
-    go : (b : Bool) → eqb g.0 128 ≡ b → (g.0 < n) ⊎ ((g.0 ≡ 128) × (s ≡ 1)) → cond b 0 (g.0 + 1) ≤ n
+    go : (b : Bool) → eqb g.0 item_var ≡ b → (g.0 < n) ⊎ ((g.0 ≡ item_var) × (s ≡ 1)) → cond b 0 (g.0 + 1) ≤ n
     go true e h = omega arith
     go false e (inl h) = omega arith
-    go false e (inr h) = absurd (eqb-false g.0 128 e h.0)
+    go false e (inr h) = absurd (eqb-false g.0 item_var e h.0)
 concl_inner_lem n v s (Perm p (Run k)) a = omega arith
 concl_inner_lem n v s (Perm p (Export k)) a = omega arith
 
@@ -86,7 +86,7 @@ module _ (f : ℕ → ℕ → Ordering) where
   res_by_lem : (m n s t p q : ℕ) (x y : Res) → p < 256 → q < 256 → ResForm m s x → ResForm n t y
       → and_then (compare (kind_res x) (kind_res y)) (and_then (compare p q) (res_by f x y)) ≡ and_then (compare (res_key p x) (res_key q y)) (counted f (res_inner x) (res_inner y))
   unfolding res_key res_inner
-  res_by_lem m n s t p q (Issue g) (Issue h) k l a b = go (eqb g.0 128) (eqb h.0 128)
+  res_by_lem m n s t p q (Issue g) (Issue h) k l a b = go (eqb g.0 item_var) (eqb h.0 item_var)
     where
       go : (u w : Bool) → and_then (compare p q) (cond u (cond w Ordering.eq Ordering.gt) (cond w Ordering.lt (f g.0 h.0)))
           ≡ and_then (compare (65536 + (256 * p + cond u 1 0)) (65536 + (256 * q + cond w 1 0))) (counted f (cond u 0 (g.0 + 1)) (cond w 0 (h.0 + 1)))
@@ -117,16 +117,16 @@ module _ (f : ℕ → ℕ → Ordering) where
   concl_same m n v s w t (Property k p) (Property j q) apart a b same e = refl
   concl_same m n v s w t (Property k p) (Perm q y) apart a b same e = let h = prin_byte v p a.1 in let u = (res_key_lem n t q.0 y (prin_byte w q b.0) b.1).0 in absurd (omega arith)
   concl_same m n v s w t (Perm p x) (Property j q) apart a b same e = let h = prin_byte w q b.1 in let u = (res_key_lem m s p.0 x (prin_byte v p a.0) a.1).0 in absurd (omega arith)
-  concl_same m n v s w t (Perm p (Issue g)) (Perm q (Issue h)) apart a b same e = go (eqb g.0 128) refl (eqb h.0 128) refl a.1 b.1 same e
+  concl_same m n v s w t (Perm p (Issue g)) (Perm q (Issue h)) apart a b same e = go (eqb g.0 item_var) refl (eqb h.0 item_var) refl a.1 b.1 same e
     where
-      go : (u : Bool) → eqb g.0 128 ≡ u → (z : Bool) → eqb h.0 128 ≡ z → (g.0 < m) ⊎ ((g.0 ≡ 128) × (s ≡ 1)) → (h.0 < n) ⊎ ((h.0 ≡ 128) × (t ≡ 1))
+      go : (u : Bool) → eqb g.0 item_var ≡ u → (z : Bool) → eqb h.0 item_var ≡ z → (g.0 < m) ⊎ ((g.0 ≡ item_var) × (s ≡ 1)) → (h.0 < n) ⊎ ((h.0 ≡ item_var) × (t ≡ 1))
           → 65536 + (256 * p.0 + cond u 1 0) ≡ 65536 + (256 * q.0 + cond z 1 0) → counted f (cond u 0 (g.0 + 1)) (cond z 0 (h.0 + 1)) ≡ Ordering.eq → cond u 0 (g.0 + 1) ≡ cond z 0 (h.0 + 1)
       go true i true j c d k r = refl
       go true i false j c d k r = absurd (omega arith)
       go false i true j c d k r = absurd (omega arith)
       go false i false j (inl c) (inl d) k r = ap (λ (x : ℕ). x + 1) (apart g.0 h.0 c d (sym (counted_at f g.0 h.0) ∙ r))
-      go false i false j (inr c) d k r = absurd (eqb-false g.0 128 i c.0)
-      go false i false j (inl c) (inr d) k r = absurd (eqb-false h.0 128 j d.0)
+      go false i false j (inr c) d k r = absurd (eqb-false g.0 item_var i c.0)
+      go false i false j (inl c) (inr d) k r = absurd (eqb-false h.0 item_var j d.0)
   concl_same m n v s w t (Perm p (Issue g)) (Perm q (Run j)) apart a b same e = let x = prin_byte v p a.0 in let u = variable_or_not g.0 in absurd (omega arith)
   concl_same m n v s w t (Perm p (Issue g)) (Perm q (Export j)) apart a b same e = let x = prin_byte v p a.0 in let u = variable_or_not g.0 in absurd (omega arith)
   concl_same m n v s w t (Perm p (Run i)) (Perm q (Issue h)) apart a b same e = let x = prin_byte w q b.0 in let u = variable_or_not h.0 in absurd (omega arith)

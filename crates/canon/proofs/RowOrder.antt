@@ -9,6 +9,7 @@ use native.Mathlib.Decide.{ℕ_discrete}
 use lib.ListN.{get_or}
 use lib.Dec.{eqb}
 use borrow.Author.Tests.{eqb-false}
+use Rattle.sorts.specs.Numbers.{item_var}
 use Rattle.sorts.specs.declared.Res as r
 use Rattle.sorts.specs.declared.Res.TheVariants.{Issue, Run, Export}
 use Rattle.sorts.specs.declared.Concl as c
@@ -26,13 +27,13 @@ use Rattle.canon.proofs.Order.{and_then_assoc}
 use Rattle.canon.proofs.Compare.{when_eq, order_cond_cmp}
 
 -- a number that is not the variable's is of a lower grant
-lower : (n res : ℕ) (g : ℕ) → (g < n) ⊎ ((g ≡ 128) × (res ≡ 1)) → eqb g 128 ≡ false → g < n
+lower : (n res : ℕ) (g : ℕ) → (g < n) ⊎ ((g ≡ item_var) × (res ≡ 1)) → eqb g item_var ≡ false → g < n
 lower n res g (inl h) e = h
-lower n res g (inr h) e = absurd (eqb-false g 128 e h.0)
+lower n res g (inr h) e = absurd (eqb-false g item_var e h.0)
 
 module _ (N : List Grant) (n : ℕ) where
   kind_write : (x : r.Res) → kind_of (write_res N x) ≡ kind_res x
-  kind_write (Issue g) = go (eqb g.0 128)
+  kind_write (Issue g) = go (eqb g.0 item_var)
     where
       go : (b : Bool) → kind_of (cond b issue_any (issue (get_or N g.0 no_grant))) ≡ 1
       go true = refl
@@ -49,9 +50,9 @@ module _ (N : List Grant) (n : ℕ) where
   concl_low : ((i : ℕ) → i < n → Canonical (get_or N i no_grant)) → (v s : ℕ) (e : c.Concl) → ConclForm n v s e → CanonicalConcl (write_concl N e)
   unfolding Canonical
   concl_low low v s (Property k p) a = tt
-  concl_low low v s (Perm p (Issue g)) a = go (eqb g.0 128) refl
+  concl_low low v s (Perm p (Issue g)) a = go (eqb g.0 item_var) refl
     where
-      go : (b : Bool) → eqb g.0 128 ≡ b → CanonicalRight (cond b issue_any (issue (get_or N g.0 no_grant)))
+      go : (b : Bool) → eqb g.0 item_var ≡ b → CanonicalRight (cond b issue_any (issue (get_or N g.0 no_grant)))
       go true e = tt
       go false e = low g.0 (lower n s g.0 a.1 e)
   concl_low low v s (Perm p (Run m)) a = tt
@@ -60,32 +61,32 @@ module _ (N : List Grant) (n : ℕ) where
   module _ (f : ℕ → ℕ → Ordering) (tells : Tells f N n) where
     res_by_lem : (v w : ℕ) (x y : r.Res) → ResForm n v x → ResForm n w y → res_by f x y ≡ cmp_right (write_res N x) (write_res N y)
     unfolding cmp_grant
-    res_by_lem v w (Issue g) (Issue h) a b = go (eqb g.0 128) refl (eqb h.0 128) refl
+    res_by_lem v w (Issue g) (Issue h) a b = go (eqb g.0 item_var) refl (eqb h.0 item_var) refl
       where
-        go : (s : Bool) → eqb g.0 128 ≡ s → (t : Bool) → eqb h.0 128 ≡ t
+        go : (s : Bool) → eqb g.0 item_var ≡ s → (t : Bool) → eqb h.0 item_var ≡ t
             → cond s (cond t Ordering.eq Ordering.gt) (cond t Ordering.lt (f g.0 h.0)) ≡ cmp_right (cond s issue_any (issue (get_or N g.0 no_grant))) (cond t issue_any (issue (get_or N h.0 no_grant)))
         go true p true q = refl
         go true p false q = refl
         go false p true q = refl
         go false p false q = tells g.0 h.0 (lower n v g.0 a p) (lower n w h.0 b q)
-    res_by_lem v w (Issue g) (Run m) a b = go (eqb g.0 128)
+    res_by_lem v w (Issue g) (Run m) a b = go (eqb g.0 item_var)
       where
         go : (s : Bool) → Ordering.lt ≡ cmp_right (cond s issue_any (issue (get_or N g.0 no_grant))) (run m.0)
         go true = refl
         go false = refl
-    res_by_lem v w (Issue g) (Export m) a b = go (eqb g.0 128)
+    res_by_lem v w (Issue g) (Export m) a b = go (eqb g.0 item_var)
       where
         go : (s : Bool) → Ordering.lt ≡ cmp_right (cond s issue_any (issue (get_or N g.0 no_grant))) (export m.0)
         go true = refl
         go false = refl
-    res_by_lem v w (Run m) (Issue h) a b = go (eqb h.0 128)
+    res_by_lem v w (Run m) (Issue h) a b = go (eqb h.0 item_var)
       where
         go : (s : Bool) → Ordering.gt ≡ cmp_right (run m.0) (cond s issue_any (issue (get_or N h.0 no_grant)))
         go true = refl
         go false = refl
     res_by_lem v w (Run m) (Run k) a b = refl
     res_by_lem v w (Run m) (Export k) a b = refl
-    res_by_lem v w (Export m) (Issue h) a b = go (eqb h.0 128)
+    res_by_lem v w (Export m) (Issue h) a b = go (eqb h.0 item_var)
       where
         go : (s : Bool) → Ordering.gt ≡ cmp_right (export m.0) (cond s issue_any (issue (get_or N h.0 no_grant)))
         go true = refl

@@ -11,6 +11,7 @@ use native.Mathlib.Decide.{ℕ_discrete}
 use lib.ListN.{get_or}
 use lib.Dec.{eqb}
 use borrow.Author.Tests.{eqb-true}
+use Rattle.sorts.specs.Numbers.{item_var}
 use Rattle.sorts.specs.declared.Res.TheVariants.{Issue, Run, Export}
 use Rattle.sorts.specs.declared.Concl as c
 use Rattle.sorts.specs.declared.Concl.TheVariants.{Property, Perm}
@@ -30,7 +31,7 @@ concl_up : (n m v s : ℕ) (e : c.Concl) → n ≤ m → ConclForm n v s e → C
 concl_up n m v s (Property k p) l a = a
 concl_up n m v s (Perm p (Issue g)) l a = (a.0, go a.1)
   where
-    go : (g.0 < n) ⊎ ((g.0 ≡ 128) × (s ≡ 1)) → (g.0 < m) ⊎ ((g.0 ≡ 128) × (s ≡ 1))
+    go : (g.0 < n) ⊎ ((g.0 ≡ item_var) × (s ≡ 1)) → (g.0 < m) ⊎ ((g.0 ≡ item_var) × (s ≡ 1))
     go (inl h) = inl (omega arith)
     go (inr h) = inr h
 concl_up n m v s (Perm p (Run k)) l a = a

@@ -12,7 +12,7 @@ use lib.Dec.{ltb, leb, eqb}
 use borrow.Author.Tests.{ltb-true, ltb-false, lt-ltb, le-ltb, lt-leb, eqb-false, ne_eqb}
 use Rattle.sorts.specs.declared.Prin.{Prin}
 use Rattle.sorts.specs.declared.Status.TheVariants.{Trusted, Issued, Provisional}
-use Rattle.sorts.specs.Numbers.{depths, conditions, packs, principals, properties, speakers}
+use Rattle.sorts.specs.Numbers.{depths, conditions, packs, principals, properties, speakers, first_var, item_var, second_var}
 use Rattle.sorts.specs.declared.Refusal.TheVariants as refusal
 use Rattle.sorts.specs.declared.Refusal.{Refusal}
 use Rattle.sorts.specs.Refusals.{refusal_number}
@@ -91,15 +91,15 @@ module _ (c : List ℕ) (b : ℕ) (y : List ℕ) where
   principal_alike v at h =
       byte_alike _ at h (λ x n l.
       either (ltb x principals) _ _ _ _ (same x n l)
-      (either (eqb x 128) _ _ _ _ (is_declared (ltb 0 v.prins) x n l)
-      (either (eqb x 129) _ _ _ _ (is_declared (ltb 1 v.prins) x n l) three))) (λ n. refl)
+      (either (eqb x first_var) _ _ _ _ (is_declared (ltb 0 v.prins) x n l)
+      (either (eqb x second_var) _ _ _ _ (is_declared (ltb 1 v.prins) x n l) three))) (λ n. refl)
 
   pack_alike : (v : Scope) (at : ℕ) → at ≤ length c → Alike c b y ℕ (pack v c at) (pack v (c ++ (b ∷ y)) at)
   unfolding pack
   pack_alike v at h =
       byte_alike _ at h (λ x n l.
       either (ltb x packs) _ _ _ _ (same x n l)
-      (either (eqb x 128) _ _ _ _ (is_declared (eqb v.res 2) x n l) three)) (λ n. refl)
+      (either (eqb x item_var) _ _ _ _ (is_declared (eqb v.res 2) x n l) three)) (λ n. refl)
 
   tag_alike : (v : Scope) (at : ℕ) → at ≤ length c → Alike c b y ℕ (tag v c at) (tag v (c ++ (b ∷ y)) at)
   unfolding tag

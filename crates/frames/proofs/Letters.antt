@@ -6,7 +6,7 @@ use mathlib.Core.List.{List, [], ◌∷◌}
 use native.Mathlib.Omega.{arith}
 use lib.ListN.{length, get_or, take}
 use lib.Dec.{eqb}
-use borrow.Author.Tests.{eqb-true, lt-ltb}
+use borrow.Author.Tests.{eq-eqb, eqb-true, lt-ltb}
 use Rattle.frames.specs.declared.Kind.{Kind}
 use Rattle.frames.specs.declared.Kind.TheVariants.{Tg, St, Li, Wd, Qu, Pl, Cf, Pv}
 use Rattle.sorts.specs.declared.Refusal.{Refusal}
@@ -41,14 +41,7 @@ letters_are k a b e = go (eqb a (first k)) (eqb b (second k)) refl refl e
     go false u p q e = let z : ◌≡◌ {A = ℕ} 0 1 = cc in absurd (omega arith)
 
 opens_own : (k : Kind) → opens k (first k) (second k) ≡ true
-opens_own Tg = refl
-opens_own St = refl
-opens_own Li = refl
-opens_own Wd = refl
-opens_own Qu = refl
-opens_own Pl = refl
-opens_own Cf = refl
-opens_own Pv = refl
+opens_own k = rw (eq-eqb (first k) (first k) refl, eq-eqb (second k) (second k) refl)
 
 -- two letters open a kind exactly where they are its letters
 opens_same : (k : Kind) (l : List ℕ) → letters_of k ≡ l → opens k (get_or l 0 0) (get_or l 1 0) ≡ true

@@ -27,23 +27,6 @@ pub enum Kind {
 }
 
 impl Kind {
-    // The marks: the two lower-case letters with which a record opens.
-    pub const TG: [u8; 2] = *b"tg";
-
-    pub const ST: [u8; 2] = *b"st";
-
-    pub const LI: [u8; 2] = *b"li";
-
-    pub const WD: [u8; 2] = *b"wd";
-
-    pub const QU: [u8; 2] = *b"qu";
-
-    pub const PL: [u8; 2] = *b"pl";
-
-    pub const CF: [u8; 2] = *b"cf";
-
-    pub const PV: [u8; 2] = *b"pv";
-
     // All kinds.
     const ALL: [Kind; 8] = [
         Kind::Tg,
@@ -56,19 +39,19 @@ impl Kind {
         Kind::Pv,
     ];
 
-    // The letters of a kind.
+    // The mark of a kind: the two lower-case letters with which a record opens.
     pub fn letters(self) -> [u8; 2]
         ensures { result ≡ letters_of self }
     {
         match self {
-            Kind::Tg => Kind::TG,
-            Kind::St => Kind::ST,
-            Kind::Li => Kind::LI,
-            Kind::Wd => Kind::WD,
-            Kind::Qu => Kind::QU,
-            Kind::Pl => Kind::PL,
-            Kind::Cf => Kind::CF,
-            Kind::Pv => Kind::PV,
+            Kind::Tg => *b"tg",
+            Kind::St => *b"st",
+            Kind::Li => *b"li",
+            Kind::Wd => *b"wd",
+            Kind::Qu => *b"qu",
+            Kind::Pl => *b"pl",
+            Kind::Cf => *b"cf",
+            Kind::Pv => *b"pv",
         }
     }
 }

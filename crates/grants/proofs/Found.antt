@@ -8,7 +8,7 @@ use native.Mathlib.Omega.{arith}
 use lib.ListN.{length}
 use lib.Dec.{ltb, leb, eqb}
 use borrow.Author.Tests.{ltb-true, leb-true, eqb-true, eqb-false}
-use Rattle.sorts.specs.Numbers.{conditions, packs, principals, properties}
+use Rattle.sorts.specs.Numbers.{conditions, packs, principals, properties, first_var, item_var, second_var}
 use Rattle.rows.specs.Written.{Grant, Conds, Concl, Right, perm, issue, issue_any, run, export, how_many, kind_of, written, written_conds, written_concl, written_right}
 use Rattle.rows.specs.Form.{larger, depth, depth_conds, depth_concl, depth_right}
 use Rattle.sorts.specs.RowForm.{PrinForm, PackForm}
@@ -61,10 +61,10 @@ principal_found v s at =
     byte_then _ s at _ (λ b n x.
     choose _ (ltb b principals) _ _
     (λ h. done _ b n (record { is = inl (ltb-true b principals h); stands = x }))
-    (λ h. choose _ (eqb b 128) _ _
-    (λ h. variable_found _ s at (ltb 0 v.prins) b n x (λ k. inr (inl (eqb-true b 128 h, ltb-true 0 v.prins k))))
-    (λ h. choose _ (eqb b 129) _ _
-    (λ h. variable_found _ s at (ltb 1 v.prins) b n x (λ k. inr (inr (eqb-true b 129 h, ltb-true 1 v.prins k))))
+    (λ h. choose _ (eqb b item_var) _ _
+    (λ h. variable_found _ s at (ltb 0 v.prins) b n x (λ k. inr (inl (eqb-true b first_var h, ltb-true 0 v.prins k))))
+    (λ h. choose _ (eqb b second_var) _ _
+    (λ h. variable_found _ s at (ltb 1 v.prins) b n x (λ k. inr (inr (eqb-true b second_var h, ltb-true 1 v.prins k))))
     (λ h. not_got _ _))))
 
 -- a pack that was read is one, or the pack variable where it is declared
@@ -74,8 +74,8 @@ pack_found v s at =
     byte_then _ s at _ (λ b n x.
     choose _ (ltb b packs) _ _
     (λ h. done _ b n (record { is = inl (ltb-true b packs h); stands = x }))
-    (λ h. choose _ (eqb b 128) _ _
-    (λ h. variable_found _ s at (eqb v.res 2) b n x (λ k. inr (eqb-true b 128 h, eqb-true v.res 2 k)))
+    (λ h. choose _ (eqb b item_var) _ _
+    (λ h. variable_found _ s at (eqb v.res 2) b n x (λ k. inr (eqb-true b item_var h, eqb-true v.res 2 k)))
     (λ h. not_got _ _)))
 
 -- The byte after an issue's principal: a whole grant follows, or the grant variable stands there and is declared.

@@ -10,7 +10,7 @@ use lib.Seq.{get_or-set_same, get_or-set_other}
 use lib.Dec.{eqb, ltb}
 use borrow.Author.Tests.{eqb-true, eqb-false, ltb-true}
 use Rattle.std.specs.Prelude.{Option, Some, None}
-use Rattle.sorts.specs.Numbers.{conditions, depths, grants, properties}
+use Rattle.sorts.specs.Numbers.{conditions, depths, grants, properties, item_var}
 use Rattle.sorts.specs.declared.GrantNo.{GrantNo}
 use Rattle.sorts.specs.declared.Res.TheVariants.{Issue, Run, Export}
 use Rattle.sorts.specs.declared.Concl as rc
@@ -126,7 +126,7 @@ module _ (inner : ℕ → Outcome Grant) (num : ℕ → Numbering → Numbered G
   fuse_issue p at t N G =
       byte_c N t (tag v s at) _ _ (λ b n1.
       pick_c N t (eqb b 1) _ _ _ _
-      (record { row = Perm (record { 0 = p }) (Issue (record { 0 = 128 })); out = refl; good = G; names = λ e. (inr refl, refl) })
+      (record { row = Perm (record { 0 = p }) (Issue (record { 0 = item_var })); out = refl; good = G; names = λ e. (inr refl, refl) })
       (inner_c N p (inner n1) (num n1 t) (ok n1 t N G)))
 
   pub fuse_concl : (at : ℕ) (t : Numbering) (N : List Grant) → Good t N → FuseC N (read_concl inner v s at) (num_concl num v s at t)

@@ -8,7 +8,7 @@ use native.Mathlib.Omega.{arith}
 use lib.ListN.{length}
 use lib.Dec.{ltb, leb, eqb}
 use borrow.Author.Tests.{leb-true, leb-false, lt-ltb, le-leb}
-use Rattle.sorts.specs.Numbers.{conditions, packs, principals, properties}
+use Rattle.sorts.specs.Numbers.{conditions, packs, principals, properties, first_var, item_var, second_var}
 use Rattle.rows.specs.Written.{Grant, Conds, Concl, Right, grant, none, also, property, perm, issue, issue_any, run, export, how_many, kind_of, written, written_conds, written_concl, written_right}
 use Rattle.rows.specs.Form.{larger, depth, depth_conds, depth_concl, depth_right}
 use Rattle.sorts.specs.RowForm.{PrinForm, PackForm}
@@ -38,7 +38,7 @@ module _ {s : List ℕ} {at b n : ℕ} (x : Spelled s at (b ∷ []) n) where
   principal_reads v f = rw byte_reads (go f)
     where
       go : PrinForm v.prins (record { 0 = b }) →
-          ◌≡◌ {A = Outcome ℕ} (cond (ltb b principals) (got b n) (cond (eqb b 128) (declared (ltb 0 v.prins) b n) (cond (eqb b 129) (declared (ltb 1 v.prins) b n) (refused Range)))) (got b n)
+          ◌≡◌ {A = Outcome ℕ} (cond (ltb b principals) (got b n) (cond (eqb b first_var) (declared (ltb 0 v.prins) b n) (cond (eqb b second_var) (declared (ltb 1 v.prins) b n) (refused Range)))) (got b n)
       go (inl h) = rw (lt-ltb b principals h)
       go (inr (inl h)) = rw (h.0, lt-ltb 0 v.prins h.1)
       go (inr (inr h)) = rw (h.0, lt-ltb 1 v.prins h.1)
@@ -49,7 +49,7 @@ module _ {s : List ℕ} {at b n : ℕ} (x : Spelled s at (b ∷ []) n) where
   pack_reads v f = rw byte_reads (go f)
     where
       go : PackForm v.res (record { 0 = b }) →
-          ◌≡◌ {A = Outcome ℕ} (cond (ltb b packs) (got b n) (cond (eqb b 128) (declared (eqb v.res 2) b n) (refused Range))) (got b n)
+          ◌≡◌ {A = Outcome ℕ} (cond (ltb b packs) (got b n) (cond (eqb b item_var) (declared (eqb v.res 2) b n) (refused Range))) (got b n)
       go (inl h) = rw (lt-ltb b packs h)
       go (inr h) = rw (h.0, h.1)
 

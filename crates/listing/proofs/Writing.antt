@@ -1,5 +1,5 @@
 -- An output takes a listing line by line.
-use Rattle.std.proofs.Common.{ℕ, ◌+◌, ◌≤◌, ◌<◌, ◌≡◌, List, [], length, get_or, take, Option, Result, Ok, Err, OnOk, arith, refl, sym, subst, take_all}
+use Rattle.std.proofs.Common.{ℕ, ◌+◌, ◌<◌, ◌≡◌, List, [], length, get_or, take, Option, Result, Ok, Err, OnOk, arith, refl, sym, subst, take_all}
 use Rattle.std.specs.Io.KnownBytes.{Appends}
 use Rattle.std.proofs.KnownBytes.{Appends-nil, Appends-trans}
 use Rattle.lines.specs.declared.Line.{Line}

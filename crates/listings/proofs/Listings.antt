@@ -16,7 +16,7 @@ use Rattle.demands.proofs.Demand3.{demand_3}
 use Rattle.demands.proofs.Existence.{call_some, blank_preview}
 use Rattle.demands.proofs.Reached.{Reached, fresh_form, fresh_shows, fresh_reached, reached_after}
 use Rattle.lines.specs.declared.Line.{Line}
-use Rattle.journal.specs.Places.{rest_after}
+use Rattle.journal.specs.Places.{rest_after, longest_journal}
 use Rattle.journal.specs.Journals.{Calls, ended, then}
 use Rattle.listings.specs.Listings.{Listed, over, read, record_lines, Told, Follows, Finished}
 use Rattle.journal.specs.Lines.{line_of, end_of}
@@ -34,12 +34,12 @@ pub fresh_lent : Lent fresh_book fresh_marks fresh_marks fresh_marks
 fresh_lent = record { book = fresh_form; preview = blank_preview }
 
 -- So the listing of a journal that is not too long tells of such calls; so do the lines that the program wrote.
-pub listed_told : (s : List ℕ) (ls : List (List ℕ)) → length s ≤ 65536 → Listed s ls → Told s ls
+pub listed_told : (s : List ℕ) (ls : List (List ℕ)) → length s ≤ longest_journal → Listed s ls → Told s ls
 listed_told s ls h (over l) = absurd (omega arith)
 listed_told s ls h (read cs b m k v l x) =
     record { calls = cs; book = b; marks = m; second = k; preview = v; made = x; lines = refl; demand = calls_demand_3 x; ends = all_end start fresh_lent fresh_shows x }
 
-pub ran_told : (s : List ℕ) (k : ℕ) → length s ≤ 65536 → (R : Finished s k) → Told s R.lines
+pub ran_told : (s : List ℕ) (k : ℕ) → length s ≤ longest_journal → (R : Finished s k) → Told s R.lines
 ran_told s k h R = listed_told s R.lines h R.listed
 
 -- a call leaves less to read
@@ -75,9 +75,9 @@ calls_from R e t = calls_upto (length t) R e t (omega arith)
 
 -- EVERY JOURNAL has a listing,
 pub listed_some : (s : List ℕ) → (ls : List (List ℕ)) × Listed s ls
-listed_some s = go (dec_lt 65536 (length s))
+listed_some s = go (dec_lt longest_journal (length s))
   where
-    go : Dec (65536 < length s) → (ls : List (List ℕ)) × Listed s ls
+    go : Dec (longest_journal < length s) → (ls : List (List ℕ)) × Listed s ls
     go (yes l) = (_, over (omega arith))
     go (no l) = let K = calls_from fresh_reached blank_preview s in (_, read K.calls K.book K.marks K.second K.preview (omega arith) K.made)
 

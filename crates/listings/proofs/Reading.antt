@@ -6,6 +6,7 @@ use native.Mathlib.Omega.{arith}
 use lib.ListN.{length, drop, get_or, length-drop, length-append, drop_of_length-le}
 use lib.Seq.{get_or-append_seam}
 use Rattle.sorts.specs.Numbers.{all_marks}
+use Rattle.journal.specs.Places.{longest_journal}
 use Rattle.bookform.specs.declared.Book.{Book}
 use Rattle.machine.specs.Machine.{State, start}
 use Rattle.bookform.specs.Books.{fresh_book, fresh_marks}
@@ -82,7 +83,7 @@ module _ (s : List ℕ) {b : Book} {m k v : List ℕ} (at n : ℕ) (R : Read s b
         }
 
     -- its line is the one after those before
-    pub step_follows : length s ≤ 65536 → Follows s n r.line
+    pub step_follows : length s ≤ longest_journal → Follows s n r.line
     step_follows h =
         let K = calls_from read_step.reached read_step.room (drop r.next s) in
         let cs = R.calls ++ (this ∷ K.calls) in
@@ -97,7 +98,7 @@ module _ (s : List ℕ) {b : Book} {m k v : List ℕ} (at n : ℕ) (R : Read s b
               ap (λ (i : ℕ). line_of i (drop at s) r.answered.answer) (omega (arith, R.count)))) S.line;
         }
 
-  module _ (l : length s ≤ at) (h : length s ≤ 65536) where
+  module _ (l : length s ≤ at) (h : length s ≤ longest_journal) where
     -- at the end of the journal the lines are the listing
     listing : Listed s (record_lines 1 R.calls ++ (end_of (length R.calls) m ∷ []))
     listing =
@@ -125,9 +126,9 @@ module _ (s : List ℕ) {b : Book} {m k v : List ℕ} (at n : ℕ) (R : Read s b
     read_ran i e = record { lines = _; listed = listing; count = listing_count ∙ sym e }
 
 -- a journal that is too long is refused whole
-pub over_follows : (s : List ℕ) (k : ℕ) (t : Line) → 65536 < length s → k ≡ 0 → Carries t (refused_line 8) → Follows s k t
+pub over_follows : (s : List ℕ) (k : ℕ) (t : Line) → longest_journal < length s → k ≡ 0 → Carries t (refused_line 8) → Follows s k t
 over_follows s k t l e h =
     record { lines = _; listed = over (omega arith); within = omega (arith, e); holds = subst (λ (i : ℕ). Carries t (get_or (refused_line 8 ∷ []) i [])) (sym e) h }
 
-pub over_ran : (s : List ℕ) (k : ℕ) → 65536 < length s → k ≡ 1 → Finished s k
+pub over_ran : (s : List ℕ) (k : ℕ) → longest_journal < length s → k ≡ 1 → Finished s k
 over_ran s k l e = record { lines = refused_line 8 ∷ []; listed = over (omega arith); count = sym e }

@@ -13,7 +13,7 @@ use Rattle.machine.specs.Machine.{start}
 use Rattle.bookform.specs.Books.{fresh_book, fresh_marks}
 use Rattle.book.specs.Chains.{Call}
 use Rattle.demands.proofs.Reached.{fresh_shows}
-use Rattle.journal.specs.Places.{rest_after}
+use Rattle.journal.specs.Places.{rest_after, longest_journal}
 use Rattle.journal.specs.Journals.{Calls, ended, then}
 use Rattle.listings.specs.Listings.{read}
 use Rattle.listings.proofs.Listings.{fresh_lent}
@@ -53,7 +53,7 @@ journal_shorter (then s r n l w h C x) (omit c j q O) =
     omega (arith, journal_shorter x O, length-append (own_bytes r.used s) (rest_after r.used s), ap (length {A = ℕ}) (own_rest r.used s))
 
 -- THE LISTING of a journal that is not too long, beside that of its accepted records alone.
-pub accepted_alone : {s m k v : List ℕ} {cs : List Call} {b : Book} → length s ≤ 65536 → Calls fresh_book fresh_marks fresh_marks fresh_marks s cs b m k v → AcceptedAlone cs m
+pub accepted_alone : {s m k v : List ℕ} {cs : List Call} {b : Book} → length s ≤ longest_journal → Calls fresh_book fresh_marks fresh_marks fresh_marks s cs b m k v → AcceptedAlone cs m
 accepted_alone {s} {m} {k} {v} {cs} {b} l x =
     let O = accepted_omitted cs in
     let A = omitted start fresh_lent fresh_shows x O in

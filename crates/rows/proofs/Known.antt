@@ -6,7 +6,7 @@ use mathlib.Core.Path.{◌≡◌, refl, sym, ap, subst, ◌∙◌}
 use mathlib.Core.Logic.{inl, inr}
 use native.Mathlib.Omega.{arith}
 use lib.ListN.{length, get_or}
-use Rattle.sorts.specs.Numbers.{grants}
+use Rattle.sorts.specs.Numbers.{grants, item_var}
 use Rattle.sorts.specs.declared.Res as r
 use Rattle.sorts.specs.declared.Res.TheVariants.{Issue, Run, Export}
 use Rattle.sorts.specs.declared.Concl as rc
@@ -107,7 +107,7 @@ module _ (N : List Grant) (small : length N ≤ grants) (dis : Distinct N) where
   res_back : (x : r.Res) → ResBelow (length N) x → res_of N (write_res N x) ≡ x
   res_back (Issue g) (inl l) =
       ap (res_of N) (write_issue N g.0 (omega arith)) ∙ ap Issue (grant_is (record { 0 = place (get_or N g.0 no_grant) N }) g (place_is (get_or N g.0 no_grant) N dis g.0 l refl))
-  res_back (Issue g) (inr e) = ap (res_of N) (write_any N g.0 e) ∙ ap Issue (grant_is (record { 0 = 128 }) g (sym e))
+  res_back (Issue g) (inr e) = ap (res_of N) (write_any N g.0 e) ∙ ap Issue (grant_is (record { 0 = item_var }) g (sym e))
   res_back (Run n) h = refl
   res_back (Export n) h = refl
 

@@ -8,7 +8,7 @@ use native.Mathlib.Omega.{arith}
 use lib.ListN.{length, get_or}
 use lib.Dec.{eqb}
 use borrow.Author.Tests.{eqb-true, eqb-false, eq-eqb}
-use Rattle.sorts.specs.Numbers.{conditions, grants}
+use Rattle.sorts.specs.Numbers.{conditions, grants, item_var}
 use Rattle.sorts.specs.declared.Res.{Res}
 use Rattle.sorts.specs.declared.Res.TheVariants.{Issue, Run, Export}
 use Rattle.sorts.specs.declared.Concl as rc
@@ -26,7 +26,7 @@ module _ (N : List Grant) where
   res_form : (res : ℕ) (x : Res) → ResBelow (length N) x → AllowedRight res (write_res N x) → ResForm (length N) res x
   unfolding Allowed
   res_form res (Issue g) (inl l) a = inl l
-  res_form res (Issue g) (inr e) a = inr (e, rw (eq-eqb g.0 128 e) at a)
+  res_form res (Issue g) (inr e) a = inr (e, rw (eq-eqb g.0 item_var e) at a)
   res_form res (Run n) b a = a
   res_form res (Export n) b a = a
 

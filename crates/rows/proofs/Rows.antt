@@ -9,7 +9,7 @@ use lib.ListN.{length, get_or, get_or-append}
 use lib.Seq.{ext_get_or}
 use lib.Dec.{eqb, ltb}
 use borrow.Author.Tests.{eqb-true, eqb-false, eq-eqb, ne_eqb, ltb-true, ltb-false}
-use Rattle.sorts.specs.Numbers.{conditions, grants}
+use Rattle.sorts.specs.Numbers.{conditions, grants, item_var}
 use Rattle.sorts.specs.declared.Res as r
 use Rattle.sorts.specs.declared.Res.TheVariants.{Issue, Run, Export}
 use Rattle.sorts.specs.declared.Concl as rc
@@ -26,7 +26,7 @@ use Rattle.rows.proofs.RowSame.{row_path}
 
 -- the grants that a row holds have numbers below n, or are the variable
 abbrev pub ResBelow : ℕ → r.Res → Type 0
-ResBelow n (Issue g) = (g.0 < n) ⊎ (g.0 ≡ 128)
+ResBelow n (Issue g) = (g.0 < n) ⊎ (g.0 ≡ item_var)
 ResBelow n (Run k) = Unit {0}
 ResBelow n (Export k) = Unit {0}
 
@@ -65,11 +65,11 @@ below_up n m x l b = record { places = b.places; used = λ j h. concl_up n m (ge
 
 -- an issue right written out, by what its number is
 
-pub write_any : (N : List Grant) (g : ℕ) → g ≡ 128 → write_res N (Issue (record { 0 = g })) ≡ issue_any
-write_any N g e = rw (eq-eqb g 128 e)
+pub write_any : (N : List Grant) (g : ℕ) → g ≡ item_var → write_res N (Issue (record { 0 = g })) ≡ issue_any
+write_any N g e = rw (eq-eqb g item_var e)
 
-pub write_issue : (N : List Grant) (g : ℕ) → g < 128 → write_res N (Issue (record { 0 = g })) ≡ issue (get_or N g no_grant)
-write_issue N g l = rw (ne_eqb g 128 (λ (e : g ≡ 128). omega arith))
+pub write_issue : (N : List Grant) (g : ℕ) → g < item_var → write_res N (Issue (record { 0 = g })) ≡ issue (get_or N g no_grant)
+write_issue N g l = rw (ne_eqb g item_var (λ (e : g ≡ item_var). omega arith))
 
 -- more numbers change nothing that is written out
 
@@ -98,7 +98,7 @@ module _ (N X : List Grant) (small : length N ≤ grants) where
 -- a row written out tells the row
 
 module _ (N : List Grant) (small : length N ≤ grants) (dis : Distinct N) where
-  issue_inj : (g h : ℕ) → (g < length N) ⊎ (g ≡ 128) → (h < length N) ⊎ (h ≡ 128) → write_res N (Issue (record { 0 = g })) ≡ write_res N (Issue (record { 0 = h })) → g ≡ h
+  issue_inj : (g h : ℕ) → (g < length N) ⊎ (g ≡ item_var) → (h < length N) ⊎ (h ≡ item_var) → write_res N (Issue (record { 0 = g })) ≡ write_res N (Issue (record { 0 = h })) → g ≡ h
   issue_inj g h (inl a) (inl b) e =
       let d : issue (get_or N g no_grant) ≡ issue (get_or N h no_grant) = sym (write_issue N g (omega arith)) ∙ e ∙ write_issue N h (omega arith) in
       let f : get_or N g no_grant ≡ get_or N h no_grant = cc in
@@ -112,7 +112,7 @@ module _ (N : List Grant) (small : length N ≤ grants) (dis : Distinct N) where
   issue_inj g h (inr a) (inr b) e = a ∙ sym b
 
   -- an issue right is not written like another right
-  issue_not : (g : ℕ) → (g < length N) ⊎ (g ≡ 128) → (x : Right) → ((w : Grant) → x ≡ issue w → ⊥) → (x ≡ issue_any → ⊥) → write_res N (Issue (record { 0 = g })) ≡ x → ⊥
+  issue_not : (g : ℕ) → (g < length N) ⊎ (g ≡ item_var) → (x : Right) → ((w : Grant) → x ≡ issue w → ⊥) → (x ≡ issue_any → ⊥) → write_res N (Issue (record { 0 = g })) ≡ x → ⊥
   issue_not g (inl a) x f k e = f (get_or N g no_grant) (sym e ∙ write_issue N g (omega arith))
   issue_not g (inr a) x f k e = k (sym e ∙ write_any N g a)
 

@@ -1,11 +1,12 @@
 use Rattle.std.proofs.Common.{ℕ, ◌≡◌, ◌<◌, Bool, true, nat_lt, refl, sym, ◌∙◌}
 use borrow.Author.Tests.{ltb-true}
+use Rattle.journal.specs.Places.{longest_journal}
 use Rattle.listings.proofs.Reading.{over_follows, over_ran}
 use Rattle.listing.proofs.Writing.{took_none, took_last}
 use Rattle.listing.proofs.list.Goals as goal
 
-too_long : (n : ℕ) (b : Bool) → b ≡ nat_lt 65536 n → b ≡ true → 65536 < n
-too_long n b e t = ltb-true 65536 n (sym e ∙ t)
+too_long : (n : ℕ) (b : Bool) → b ≡ nat_lt longest_journal n → b ≡ true → longest_journal < n
+too_long n b e t = ltb-true longest_journal n (sym e ∙ t)
 
 pub returns-then-over : goal.returns-then-over
 returns-then-over g c =

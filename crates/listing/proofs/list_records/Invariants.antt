@@ -1,4 +1,4 @@
-use Rattle.std.proofs.Common.{◌≡◌, ◌-◌, length}
+use Rattle.std.proofs.Common.{◌-◌, length}
 use Rattle.listings.proofs.Reading.{Read}
 use Rattle.listing.proofs.Writing.{Took}
 use Rattle.listing.proofs.list_records.Given as goal

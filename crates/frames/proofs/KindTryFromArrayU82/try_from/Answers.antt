@@ -1,5 +1,5 @@
 use mathlib.Core.Path.{◌≡◌, sym, ap, ◌∙◌, subst}
-use lib.ListN.{get_or}
+use lib.ListN.{length, get_or}
 use borrow.Author.Rules.{rules}
 use borrow.Author.Tests.{tests}
 use Rattle.std.specs.List.{find}
@@ -18,6 +18,6 @@ pub returns : goal.returns
 returns c =
     let l = c.args.letters in
     let all : array_into_iter_items c.into_iter.result ≡ kinds = search rules in
-    let road = YieldsList-from_shown (array_steps {A = Kind} {n = 8}) (λ x. x) array_into_iter_items (λ s t h. h.0) (λ s x t h. h) c.into_iter.result in
+    let road = YieldsList-from_shown (array_steps {A = Kind} {n = length kinds}) (λ x. x) array_into_iter_items (λ s t h. h.0) (λ s x t h. h) c.into_iter.result in
     let found = find_from_yields_List (λ k. opens k (get_or l 0 0) (get_or l 1 0)) _ _ c.find.result c.find.ensures.ran road (λ x b q k. (search rules, opens_is x l b (search rules) (λ e. search (rules, tests)) (λ e. search (rules, tests)))) in
     subst (Names l) (sym c.ok_or.ensures.value) (found_names l c.find.result (sym (option_map_id c.find.result) ∙ found ∙ ap (find (λ k. opens k (get_or l 0 0) (get_or l 1 0))) all))
