@@ -24,8 +24,8 @@ use Rattle.rows.proofs.Shown.{Shown}
 use Rattle.canon.specs.Canon.{Canonical}
 use Rattle.canon.specs.Compare.{cmp_grant}
 use Rattle.canon.specs.RowOrder.{row_by, numbers_by, Tells, Ascends}
-use Rattle.canon.proofs.Compare.{cmp_refl, cmp_eq}
-use Rattle.canon.proofs.RowOrder.{row_by_lem, row_form, form_row}
+use Rattle.canon.proofs.Compare.{cmp_refl}
+use Rattle.canon.proofs.RowOrder.{row_by_lem, row_form}
 
 concl_up : (n m v s : ℕ) (e : c.Concl) → n ≤ m → ConclForm n v s e → ConclForm m v s e
 concl_up n m v s (Property k p) l a = a

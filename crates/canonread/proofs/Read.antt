@@ -14,8 +14,7 @@ use Rattle.grants.proofs.Allowed.{read_allowed, concl_allowed}
 use Rattle.sorts.specs.Numbers.{depths}
 use Rattle.canon.specs.Most.{most_grant, most_concl}
 use Rattle.canon.specs.Canon.{canon, canon_concl}
-use Rattle.canonwrite.specs.Model.{Wrote, form_grant, form_concl}
-use Rattle.canonwrite.proofs.Model.{form_grant_lem, form_concl_lem}
+use Rattle.canonwrite.specs.Model.{Wrote}
 use Rattle.std.specs.Prelude.{Option, Some}
 use Rattle.canonwrite.specs.declared.Place.{Place}
 use Rattle.canonwrite.specs.Answers.{Answers}

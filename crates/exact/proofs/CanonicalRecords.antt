@@ -4,7 +4,7 @@ use mathlib.Core.List.{List, ◌++◌}
 use mathlib.Core.Path.{◌≡◌, refl, sym, subst, ◌∙◌, ap}
 use native.Mathlib.Omega.{arith}
 use lib.ListN.{length, length-append}
-use Rattle.sorts.specs.declared.Status.TheVariants.{Trusted, Issued, Provisional}
+use Rattle.sorts.specs.declared.Status.TheVariants.{Issued, Provisional}
 use Rattle.sorts.specs.declared.Refusal.{Refusal}
 use Rattle.frames.specs.Bytes.{Outcome, got, refused, and_then}
 use Rattle.frames.specs.Frames.{extent}
@@ -12,10 +12,10 @@ use Rattle.reader.specs.Contents.{Record, enter, remove, confirm, preview, query
 use Rattle.reader.specs.Records.{read_record, read_canonical}
 use Rattle.exact.proofs.Framing.{in_frame_length}
 use Rattle.exact.specs.Writing.{kind_of, written_status, content_of, written_record, AllowedRecord}
-use Rattle.exact.proofs.Exact.{record_read, record_exact, record_extent}
+use Rattle.exact.proofs.Exact.{record_exact, record_extent}
 use Rattle.rows.specs.Written.{Grant, written}
 use Rattle.canon.specs.Canon.{canon, Canonical, CanonicalConcl}
-use Rattle.canon.proofs.Form.{canon_canonical, concl_canonical, canonical_own, concl_own}
+use Rattle.canon.proofs.Form.{canon_canonical, concl_canonical}
 use Rattle.canon.proofs.Size as size
 
 -- a record whose grants are in canonical form

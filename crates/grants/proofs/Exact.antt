@@ -5,15 +5,15 @@ use mathlib.Core.Path.{◌≡◌}
 use mathlib.Core.List.{List, ◌++◌}
 use native.Mathlib.Omega.{arith}
 use lib.ListN.{length, take, drop}
-use Rattle.rows.specs.Written.{Grant, Conds, Concl, grant, property, perm, how_many, written, written_conds, written_concl}
-use Rattle.rows.specs.Form.{depth, depth_conds, depth_concl}
-use Rattle.rows.specs.Allowed.{Allowed, AllowedConds, AllowedConcl}
+use Rattle.rows.specs.Written.{Grant, Concl, grant, property, perm, written, written_concl}
+use Rattle.rows.specs.Form.{depth, depth_concl}
+use Rattle.rows.specs.Allowed.{Allowed, AllowedConcl}
 use Rattle.frames.specs.declared.ranges.Scope.{Scope}
 use Rattle.frames.specs.Bytes.{got}
-use Rattle.grants.specs.Grants.{read_concl, read_conds, read_grant}
+use Rattle.grants.specs.Grants.{read_concl, read_grant}
 use Rattle.grants.proofs.Spelled.{Spelled, spelled_take, spelled_fits, spelled_starts, between}
-use Rattle.grants.proofs.Found.{concl_found, conds_found, grant_found}
-use Rattle.grants.proofs.Reread.{concl_reads, conds_reads, grant_reads}
+use Rattle.grants.proofs.Found.{concl_found, grant_found}
+use Rattle.grants.proofs.Reread.{concl_reads, grant_reads}
 
 -- From place at up to place n, within s, stand the bytes w.
 abbrev pub Exactly : List ℕ → ℕ → List ℕ → ℕ → Type 0

@@ -61,7 +61,7 @@ principal_found v s at =
     byte_then _ s at _ (λ b n x.
     choose _ (ltb b principals) _ _
     (λ h. done _ b n (record { is = inl (ltb-true b principals h); stands = x }))
-    (λ h. choose _ (eqb b item_var) _ _
+    (λ h. choose _ (eqb b first_var) _ _
     (λ h. variable_found _ s at (ltb 0 v.prins) b n x (λ k. inr (inl (eqb-true b first_var h, ltb-true 0 v.prins k))))
     (λ h. choose _ (eqb b second_var) _ _
     (λ h. variable_found _ s at (ltb 1 v.prins) b n x (λ k. inr (inr (eqb-true b second_var h, ltb-true 1 v.prins k))))

@@ -2,7 +2,7 @@
 use Prim.Native.Nat.{ℕ}
 use mathlib.Core.Path.{◌≡◌, refl, sym, ap, ◌∙◌}
 use mathlib.Core.Bool.{Bool, true, false, cond}
-use mathlib.Core.List.{List, []}
+use mathlib.Core.List.{List}
 use native.Mathlib.Omega.{arith}
 use Rattle.sorts.specs.declared.Prin.{Prin}
 use Rattle.sorts.specs.declared.Status.{Status}
@@ -10,7 +10,7 @@ use Rattle.sorts.specs.declared.Status.TheVariants.{Trusted, Issued, Provisional
 use Rattle.rows.specs.Written.{Grant}
 use Rattle.rows.proofs.Bytes.{no_true}
 use Rattle.machine.specs.Machine.{Entry, member, insert, delete, entry, entered, removed}
-use Rattle.machine.proofs.Sets.{entry_dec, insert_other, insert_present, delete_same, delete_other, delete_absent, member_none}
+use Rattle.machine.proofs.Sets.{entry_dec, insert_other, insert_present, delete_same, delete_other, delete_absent}
 
 abbrev pub Apart : List Entry → Type 0
 Apart E = (p : Prin) (g : Grant) → member (entry (Issued p) g) E ≡ true → member (entry (Provisional p) g) E ≡ true → ⊥

@@ -81,19 +81,19 @@ module _ (M : State) (C : Chosen) (F : Formed M) where
 
   -- The answers as a set of statements: statement n is a truth, or what somebody said.
   answer : ℕ → Bool
-  answer n = cond (ltb n conclusions) (found M C n) (heard M C (record { speaker = n / 2304 - 1; what = n % 2304 }))
+  answer n = cond (ltb n conclusions) (found M C n) (heard M C (record { speaker = n / conclusions - 1; what = n % conclusions }))
 
   answer_truth : (e : ℕ) → InTruth e → answer e ≡ found M C e
   unfolding answer
-  answer_truth e r = ap (λ (t : Bool). cond t (found M C e) (heard M C (record { speaker = e / 2304 - 1; what = e % 2304 }))) (lt-ltb e 2304 r)
+  answer_truth e r = ap (λ (t : Bool). cond t (found M C e) (heard M C (record { speaker = e / conclusions - 1; what = e % conclusions }))) (lt-ltb e conclusions r)
 
   answer_said : (d : Said) → InSaid d → answer (said_mark d.speaker d.what) ≡ heard M C d
   unfolding answer
   answer_said d r =
       let n = said_mark d.speaker d.what in
       let small = r.1 in
-      let d' : Said = record { speaker = n / 2304 - 1; what = n % 2304 } in
-      ap (λ (t : Bool). cond t (found M C n) (heard M C d')) (le-ltb n 2304 (omega arith)) ∙ ap (heard M C) (said_is d' d (omega arith) (omega arith))
+      let d' : Said = record { speaker = n / conclusions - 1; what = n % conclusions } in
+      ap (λ (t : Bool). cond t (found M C n) (heard M C d')) (le-ltb n conclusions (omega arith)) ∙ ap (heard M C) (said_is d' d (omega arith) (omega arith))
 
   -- a row whose conditions are answered yes
   given_met : (g : ℕ) → g < length M.N → (x y z : ℕ) → Values (row_at M) g x y z → Met (λ n. T (answer n)) (row_at M g) x y z → Given (every (heard M C)) (row_at M g) (granted (row_at M g) x y z)

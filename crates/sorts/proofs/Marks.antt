@@ -76,11 +76,11 @@ number_onto n l = go (dec_lt (n % 144) 16) (dec_lt (n % 144) 80) (dec_lt (n % 14
 
 -- "So there are 39,168 marks": every mark says a statement,
 pub mark_onto : (n : ℕ) → n < all_marks → Truth n ⊎ Saying n
-mark_onto n l = go (dec_lt n 2304)
+mark_onto n l = go (dec_lt n conclusions)
   where
-    go : Dec (n < 2304) → Truth n ⊎ Saying n
+    go : Dec (n < conclusions) → Truth n ⊎ Saying n
     go (yes p) = inl (number_onto n p)
-    go (no p) = let c = number_onto (n % 2304) (omega arith) in inr (n / 2304 - 1, c.0, omega arith, c.1, omega (arith, c.2))
+    go (no p) = let c = number_onto (n % conclusions) (omega arith) in inr (n / conclusions - 1, c.0, omega arith, c.1, omega (arith, c.2))
 
 -- every statement has a mark,
 pub mark_lt : (n : ℕ) → Truth n ⊎ Saying n → n < all_marks

@@ -1,12 +1,11 @@
 -- The derived equality of conclusions, conditions and rows is equality.
 use Prim.Native.Nat.{ℕ}
-use mathlib.Core.Path.{◌≡◌, refl, sym, ap, subst, ◌∙◌}
+use mathlib.Core.Path.{◌≡◌, refl, sym, ap, subst}
 use mathlib.Core.Bool.{Bool, true, false, true≢false, ◌&&◌}
 use lib.Dec.{eqb}
-use lib.Pointwise.{pointwise, pointwise_decides}
+use lib.Pointwise.{pointwise_decides}
 use borrow.Author.Tests.{eqb-true, eq-eqb}
 use Rattle.std.specs.Prelude.{Decides}
-use Rattle.sorts.specs.declared.Prin.{Prin}
 use Rattle.sorts.specs.declared.Res.{Res}
 use Rattle.sorts.specs.declared.Res.TheVariants.{Issue, Run, Export}
 use Rattle.sorts.specs.declared.Concl.{Concl}
