@@ -7,42 +7,44 @@ use lib.ListN.{length, drop, length-drop, drop_of_length-le}
 use Rattle.bookform.specs.declared.Book.{Book}
 use Rattle.bookform.specs.declared.answer.Answered.{Answered}
 use Rattle.book.specs.Calls.{Called}
-use Rattle.bookform.specs.Books.{fresh_book, fresh_marks}
 use Rattle.book.specs.Chains.{Call}
-use Rattle.journal.specs.Journals.{Calls, ended, then, Leaves}
+use Rattle.journal.specs.Journals.{Calls, ended, then, LeavesFrom, fresh_left, Leaves}
 use Rattle.journal.specs.Places.{next_place}
+use Rattle.journal.specs.declared.Left.{Left}
 use Rattle.journal.proofs.Calling.{calls_only}
 use Rattle.journal.proofs.places.Places.{next_within, next_rest}
 
--- What was read up to a place: with any calls of what is left it makes the calls of the journal.
-pub record ReadTo (s : List ℕ) (b : Book) (m k v : List ℕ) (at : ℕ) : Type 0 where
+-- What was read up to a place, from x on: with any calls of what is left it makes the calls of the journal.
+pub record ReadTo (x : Left) (s : List ℕ) (y : Left) (at : ℕ) : Type 0 where
   pub within : at ≤ length s
-  pub more : (cs : List Call) (b' : Book) (m' k' v' : List ℕ) → Calls b m k v (drop at s) cs b' m' k' v' → Leaves s b' m' k' v'
+  pub more : (cs : List Call) (z : Left) → Calls y.book y.marks y.second y.preview (drop at s) cs z.book z.marks z.second z.preview → LeavesFrom x s z
 
-pub to_none : (s : List ℕ) (b : Book) (m k v : List ℕ) → b ≡ fresh_book → m ≡ fresh_marks → k ≡ fresh_marks → v ≡ fresh_marks → ReadTo s b m k v 0
-to_none s b m k v e f g h =
-    subst (λ (x : Book). ReadTo s x m k v 0) (sym e)
-    (subst (λ (x : List ℕ). ReadTo s fresh_book x k v 0) (sym f)
-    (subst (λ (x : List ℕ). ReadTo s fresh_book fresh_marks x v 0) (sym g)
-    (subst (λ (x : List ℕ). ReadTo s fresh_book fresh_marks fresh_marks x 0) (sym h)
-    (record { within = omega arith; more = λ cs b' m' k' v' x. record { calls = cs; made = x } }))))
+pub to_none : (x : Left) (s : List ℕ) → ReadTo x s x 0
+to_none x s = record { within = omega arith; more = λ cs z h. record { calls = cs; made = h } }
 
-module _ (s : List ℕ) {b : Book} {m k v : List ℕ} (at : ℕ) (R : ReadTo s b m k v at) where
+module _ (s : List ℕ) {x y : Left} (at : ℕ) (R : ReadTo x s y at) where
   -- one call more
-  pub to_next : (r : Answered) (m' k' v' : List ℕ) (to : ℕ) → at < length s → Called b m k v (drop at s) r m' k' v' → to ≡ next_place (length s) at r.used →
-      ReadTo s r.book m' k' v' to
-  to_next r m' k' v' to l C e =
+  pub to_next : (r : Answered) (m k v : List ℕ) (to : ℕ) → at < length s → Called y.book y.marks y.second y.preview (drop at s) r m k v → to ≡ next_place (length s) at r.used →
+      ReadTo x s (record { book = r.book; marks = m; second = k; preview = v }) to
+  to_next r m k v to l C e =
       record {
         within = omega (arith, e, next_within s at r.used);
-        more = λ cs b'' m'' k'' v'' x.
-            R.more (record { record' = drop at s; before = b; marks = m; second = k; preview = v; gave = r; left = m'; left_second = k'; left_preview = v' } ∷ cs) b'' m'' k'' v''
-            (then (drop at s) r m' k' v' (omega (arith, length-drop at s)) C
-            (subst (λ (z : List ℕ). Calls r.book m' k' v' z cs b'' m'' k'' v'') (ap (λ (i : ℕ). drop i s) e ∙ next_rest s at r.used) x));
+        more = λ cs z h.
+            R.more
+            (record { record' = drop at s; before = y.book; marks = y.marks; second = y.second; preview = y.preview; gave = r; left = m; left_second = k; left_preview = v } ∷ cs) z
+            (then (drop at s) r m k v (omega (arith, length-drop at s)) C
+            (subst (λ (t : List ℕ). Calls r.book m k v t cs z.book z.marks z.second z.preview) (ap (λ (i : ℕ). drop i s) e ∙ next_rest s at r.used) h));
       }
 
   -- at the end nothing is left
-  pub to_end : length s ≤ at → Leaves s b m k v
-  to_end l = R.more [] b m k v (subst (λ (z : List ℕ). Calls b m k v z [] b m k v) (sym (drop_of_length-le s {i = at} l)) ended)
+  pub to_end : length s ≤ at → LeavesFrom x s y
+  to_end l =
+      R.more [] y
+      (subst (λ (t : List ℕ). Calls y.book y.marks y.second y.preview t [] y.book y.marks y.second y.preview) (sym (drop_of_length-le s {i = at} l)) ended)
+
+-- What a journal leaves of a fresh book and of buffers that are 0 is what it leaves.
+pub from_fresh : {x y : Left} {s : List ℕ} → x ≡ fresh_left → LeavesFrom x s y → Leaves s y.book y.marks y.second y.preview
+from_fresh {x} {y} {s} e R = let r = subst (λ (l : Left). LeavesFrom l s y) e R in record { calls = r.calls; made = r.made }
 
 -- A journal leaves one book, marks and preview buffer only.
 pub leaves_only : (s : List ℕ) (b c : Book) (m n k l v w : List ℕ) → Leaves s b m k v → Leaves s c n l w → (b ≡ c) × (m ≡ n) × (k ≡ l) × (v ≡ w)

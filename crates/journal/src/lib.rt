@@ -4,8 +4,8 @@
 pub mod answers;
 pub mod places;
 
-ghost use Rattle.std.specs.Prelude.{◌≤◌, length};
-ghost use Rattle.journal.specs.Journals.{Steps, Leaves};
+ghost use Rattle.std.specs.Prelude.{◌≡◌, ◌≤◌, length};
+ghost use Rattle.journal.specs.Journals.{Steps, fresh_left, LeavesFrom, Leaves};
 
 use bookform::Book;
 use bookform::answer::Answered;
@@ -52,25 +52,45 @@ pub struct Left {
     pub preview: [u8; Number::MARKS],
 }
 
-// What the records of a journal leave, read from a fresh book on, with every buffer 0. A loop of its own, as the listing program has one:
-// document 01 has the loop hand on the part that starts at the next record, and the program make the arrays that it lends.
+impl Left {
+    // A fresh book, with every buffer 0.
+    pub fn fresh() -> Left
+        ensures { result ≡ fresh_left }
+    {
+        Left {
+            book: Book::new(),
+            marks: [0u8; Number::MARKS],
+            second: [0u8; Number::MARKS],
+            preview: [0u8; Number::MARKS],
+        }
+    }
+
+    // What the records of a journal leave of this book and these buffers. They are lent, since each copy of them takes 120 KB of the stack;
+    // `fresh` and `left_by` alone hand them out. A loop of its own, as the listing program has one: document 01 has the loop hand on the
+    // part that starts at the next record, and the program make the arrays that it lends.
+    pub fn read(&mut self, s: &[u8])
+        ensures { LeavesFrom self.old s.now self.new }
+    {
+        let mut at: usize = 0;
+        while at < s.len() {
+            let a = book::call(
+                self.book,
+                &mut self.marks,
+                &mut self.second,
+                &mut self.preview,
+                &s[at..],
+            );
+            at = places::next_place(s.len(), at, a.used);
+            self.book = a.book;
+        }
+    }
+}
+
+// What the records of a journal leave, read from a fresh book on, with every buffer 0.
 pub fn left_by(s: &[u8]) -> Left
     ensures { Leaves s.now result.book result.marks result.second result.preview }
 {
-    let mut book = Book::new();
-    let mut marks = [0u8; Number::MARKS];
-    let mut second = [0u8; Number::MARKS];
-    let mut preview = [0u8; Number::MARKS];
-    let mut at: usize = 0;
-    while at < s.len() {
-        let a = book::call(book, &mut marks, &mut second, &mut preview, &s[at..]);
-        at = places::next_place(s.len(), at, a.used);
-        book = a.book;
-    }
-    Left {
-        book,
-        marks,
-        second,
-        preview,
-    }
+    let mut left = Left::fresh();
+    left.read(s);
+    left
 }

@@ -6,15 +6,14 @@ use Rattle.sorts.specs.Refusals.{refusal_number}
 use Rattle.bookform.specs.declared.Book.{Book}
 use Rattle.bookform.specs.Books.{fresh_marks}
 use Rattle.journal.specs.Places.{longest_journal}
-use Rattle.journal.specs.declared.Left.{Left}
 use Rattle.journal.specs.Journals.{Leaves}
 use Rattle.panel.specs.declared.Panel.{Panel}
 use Rattle.panel.specs.Panels.{PanelOf}
 
--- What a journal s leaves; one over 65,536 bytes is refused.
-abbrev pub JournalLeft : List ℕ → Result Left Refusal → Type 0
-JournalLeft s (Ok l) = (length s ≤ longest_journal) × Leaves s l.book l.marks l.second l.preview
-JournalLeft s (Err j) = (longest_journal < length s) × (j ≡ Length)
+-- Whether a journal s is read; one over 65,536 bytes is refused.
+abbrev pub Admitted : List ℕ → Result (Unit {0}) Refusal → Type 0
+Admitted s (Ok x) = length s ≤ longest_journal
+Admitted s (Err j) = (longest_journal < length s) × (j ≡ Length)
 
 -- The panel of principal p over the book that a journal s leaves. "Refusal 8 is only for a whole journal, before every other check":
 -- "a journal over 65,536 bytes".

@@ -2,27 +2,30 @@
 #![tactic(auto)]
 
 ghost use Rattle.std.specs.Prelude.{◌≡◌, ◌++◌};
-ghost use Rattle.panel_boundary.specs.Crossing.{bytes_of, JournalLeft, JournalPanel, Crossed, JournalPreview};
+ghost use Rattle.panel_boundary.specs.Crossing.{bytes_of, Admitted, JournalPanel, Crossed, JournalPreview};
 
 use journal::{Left, places};
 use panel::Panel;
 use sorts::{Number, Refusal};
 
-// What a journal leaves.
-fn left_by(s: &[u8]) -> Result<Left, Refusal>
-    ensures { JournalLeft s.now result }
+// Whether a journal is read: one that is too long is not. What it leaves is no part of the answer, since a `Result` is copied as it is
+// handed on, and each copy would take 120 KB of the caller's stack.
+fn admit(s: &[u8]) -> Result<(), Refusal>
+    ensures { Admitted s.now result }
 {
     if places::over(s.len()) {
         return Err(Refusal::Length);
     }
-    Ok(journal::left_by(s))
+    Ok(())
 }
 
 // The panel of principal p over the book that a journal leaves.
 fn panel_after(s: &[u8], p: u8) -> Result<Panel, Refusal>
     ensures { JournalPanel s.now p result }
 {
-    let left = left_by(s)?;
+    admit(s)?;
+    let mut left = Left::fresh();
+    left.read(s);
     panel::show(left.book, &left.marks, &left.second, p)
 }
 
@@ -60,8 +63,10 @@ pub extern "C" fn panel_of_journal(s: &[u8], p: u8, out: &mut [u8; 8]) -> u8
 pub extern "C" fn preview_of_journal(s: &[u8], out: &mut [u8; Number::MARKS]) -> u8
     ensures { JournalPreview s.now result out.new }
 {
-    match left_by(s) {
-        Ok(left) => {
+    match admit(s) {
+        Ok(()) => {
+            let mut left = Left::fresh();
+            left.read(s);
             let preview = left.preview;
             *out = preview;
             0
