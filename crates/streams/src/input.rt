@@ -1,7 +1,5 @@
 // An input, read to its end or until its room is full. What fails is told.
-ghost use Rattle.std.specs.Prelude.{◌≡◌, ◌<◌, ◌↔◌, length, IsTrue};
-ghost use Rattle.std.specs.IoError.{error_kind};
-ghost use Rattle.streams.specs.Inputs.{HasRead};
+ghost use Rattle.streams.specs.Inputs.{Again, HasRead};
 
 use std::io;
 use std::io::{ErrorKind, Read};
@@ -16,11 +14,15 @@ pub struct Failure {
     pub error: io::Error,
 }
 
-// Whether a read that failed is made again, where so many more may be: one that a signal interrupted is.
-fn again(error: &io::Error, tries: usize) -> bool
-    ensures { IsTrue result ↔ ((error_kind error.now ≡ ErrorKind.Interrupted) × (0 < tries)) }
+// After a read that failed, where n bytes were read before it: how many more may be made again, if this one is, as one that a signal
+// interrupted is while any may be; else the failure.
+fn again(n: usize, tries: usize, error: io::Error) -> Result<usize, Failure>
+    ensures { Again n tries error result }
 {
-    0 < tries && error.kind() == ErrorKind::Interrupted
+    if 0 < tries && error.kind() == ErrorKind::Interrupted {
+        return Ok(tries - 1);
+    }
+    Err(Failure { n, error })
 }
 
 // Reads until buf is full, the input ends or a read fails; one that a signal interrupts is made again. It answers how many bytes were
@@ -35,12 +37,7 @@ pub fn read_all<R: Read>(reader: &mut R, buf: &mut [u8]) -> Result<usize, Failur
         match reader.read(&mut buf[n..]) {
             Ok(0) => return Ok(n),
             Ok(more) => n += more,
-            Err(error) => {
-                if !again(&error, tries) {
-                    return Err(Failure { n, error });
-                }
-                tries -= 1;
-            }
+            Err(error) => tries = again(n, tries, error)?,
         }
     }
     Ok(n)

@@ -1,6 +1,6 @@
 // A line written to an output, piece by piece: the letters, the sign and each digit in a write of its own. An output that failed is
 // handed nothing more.
-ghost use Rattle.std.specs.Prelude.{ℕ, List, [], ◌∷◌, ◌++◌, OnOk};
+ghost use Rattle.std.specs.Prelude.{ℕ, List, [], ◌∷◌, ◌++◌};
 ghost use Rattle.std.specs.Io.KnownBytes.{Appends};
 ghost use Rattle.sorts.specs.Refusals.{refusal_number};
 ghost use Rattle.frames.specs.Frames.{letters_of};
@@ -9,7 +9,7 @@ ghost use Rattle.lines.specs.Words.{space, newline, refused_word, end_word, mark
 ghost use Rattle.lines.specs.Numerals.{each, last_number};
 ghost use Rattle.lines.specs.declared.Said.TheVariants.{Changed};
 ghost use Rattle.lines.specs.Pieces.{said_pieces, line_pieces, joined};
-ghost use Rattle.streams.specs.Pieces.{none_taken, more_taken};
+ghost use Rattle.streams.specs.Pieces.{Handed, Began, none_taken, more_taken, began_later, began_earlier};
 
 use frames::Kind;
 use lines::{Line, Said, digits};
@@ -23,21 +23,34 @@ pub trait PieceOutput {
     // What it was, and what it is after it took these pieces in their order.
     ghost took: { Self → Self → List (List ℕ) → Type 0 };
 
+    // What it was, and what it is after it failed at one of these pieces: it took a beginning of them, and nothing more.
+    ghost broke: { Self → Self → List (List ℕ) → Type 0 };
+
     fn put(&mut self, piece: &[u8]) -> io::Result<()>
-        ensures { OnOk result (took self.old self.new (piece.now ∷ [])) };
+        ensures { Handed took broke self.old self.new (piece.now ∷ []) result };
 
     ghost took_none: { (a : Self) → took a a [] };
 
     ghost took_more: { (a b c : Self) (ps qs : List (List ℕ)) → took a b ps → took b c qs → took a c (ps ++ qs) };
+
+    ghost broke_later: { (a b c : Self) (ps qs : List (List ℕ)) → took a b ps → broke b c qs → broke a c (ps ++ qs) };
+
+    ghost broke_earlier: { (a b : Self) (ps qs : List (List ℕ)) → broke a b ps → broke a b (ps ++ qs) };
 }
 
 // An output takes the bytes of a piece.
 impl<W: Write> PieceOutput for W {
     ghost took = { λ a b ps. Appends (W.contents a) (W.contents b) (joined ps) };
 
+    ghost broke = { λ a b ps. Began (W.contents a) (W.contents b) (joined ps) };
+
     ghost took_none = { λ a. none_taken (W.contents a) };
 
     ghost took_more = { λ a b c ps qs x y. more_taken (W.contents a) (W.contents b) (W.contents c) ps qs x y };
+
+    ghost broke_later = { λ a b c ps qs x y. began_later (W.contents a) (W.contents b) (W.contents c) ps qs x y };
+
+    ghost broke_earlier = { λ a b ps qs x. began_earlier (W.contents a) (W.contents b) ps qs x };
 
     // A write that fails or takes nothing is the last: none is made again, as `write_all` would one that was interrupted.
     fn put(&mut self, piece: &[u8]) -> io::Result<()> {
@@ -55,7 +68,7 @@ impl<W: Write> PieceOutput for W {
 
 // Writes a number, digit by digit: no `Display`, since each digit is a write of its own.
 fn write_digits<P: PieceOutput>(out: &mut P, n: usize) -> io::Result<()>
-    ensures { OnOk result (P.took out.old out.new (each (decimal n))) }
+    ensures { Handed P.took P.broke out.old out.new (each (decimal n)) result }
 {
     let d = digits::count(n);
     for i in 0..d {
@@ -66,7 +79,7 @@ fn write_digits<P: PieceOutput>(out: &mut P, n: usize) -> io::Result<()>
 
 // Writes a number, and the word after it.
 fn write_number<P: PieceOutput>(out: &mut P, n: usize, word: &[u8]) -> io::Result<()>
-    ensures { OnOk result (P.took out.old out.new (each (decimal n) ++ (word.now ∷ []))) }
+    ensures { Handed P.took P.broke out.old out.new (each (decimal n) ++ (word.now ∷ [])) result }
 {
     write_digits(out, n)?;
     out.put(word)
@@ -74,7 +87,7 @@ fn write_number<P: PieceOutput>(out: &mut P, n: usize, word: &[u8]) -> io::Resul
 
 // Writes a net after a space: its sign, then its digits.
 fn write_net<P: PieceOutput>(out: &mut P, z: i32) -> io::Result<()>
-    ensures { OnOk result (P.took out.old out.new (space ∷ each (signed z))) }
+    ensures { Handed P.took P.broke out.old out.new (space ∷ each (signed z)) result }
 {
     out.put(b" ")?;
     out.put(&[digits::sign(z)])?;
@@ -83,7 +96,7 @@ fn write_net<P: PieceOutput>(out: &mut P, z: i32) -> io::Result<()>
 
 // Writes what a line says of a change, and the line's end: the letters, and the two nets.
 fn write_change<P: PieceOutput>(out: &mut P, k: Kind, c: Counts) -> io::Result<()>
-    ensures { OnOk result (P.took out.old out.new (said_pieces (Changed k c))) }
+    ensures { Handed P.took P.broke out.old out.new (said_pieces (Changed k c)) result }
 {
     out.put(&k.letters())?;
     write_net(out, c.truths.net)?;
@@ -93,7 +106,7 @@ fn write_change<P: PieceOutput>(out: &mut P, k: Kind, c: Counts) -> io::Result<(
 
 // Writes what a line says of a query, and the line's end: the letters, and the word of the answer.
 fn write_answer<P: PieceOutput>(out: &mut P, k: Kind, word: &[u8]) -> io::Result<()>
-    ensures { OnOk result (P.took out.old out.new (letters_of k ∷ word.now ∷ newline ∷ [])) }
+    ensures { Handed P.took P.broke out.old out.new (letters_of k ∷ word.now ∷ newline ∷ []) result }
 {
     out.put(&k.letters())?;
     out.put(word)?;
@@ -102,7 +115,7 @@ fn write_answer<P: PieceOutput>(out: &mut P, k: Kind, word: &[u8]) -> io::Result
 
 // Writes a refusal, and the line's end.
 fn write_refusal<P: PieceOutput>(out: &mut P, k: Refusal) -> io::Result<()>
-    ensures { OnOk result (P.took out.old out.new (refused_word ∷ last_number (refusal_number k))) }
+    ensures { Handed P.took P.broke out.old out.new (refused_word ∷ last_number (refusal_number k)) result }
 {
     out.put(b"refused ")?;
     write_number(out, u8::from(k) as usize, b"\n")
@@ -110,7 +123,7 @@ fn write_refusal<P: PieceOutput>(out: &mut P, k: Refusal) -> io::Result<()>
 
 // Writes what a record's line says.
 fn write_said<P: PieceOutput>(out: &mut P, s: Said) -> io::Result<()>
-    ensures { OnOk result (P.took out.old out.new (said_pieces s)) }
+    ensures { Handed P.took P.broke out.old out.new (said_pieces s) result }
 {
     match s {
         Said::Changed(k, c) => write_change(out, k, c),
@@ -123,7 +136,7 @@ fn write_said<P: PieceOutput>(out: &mut P, s: Said) -> io::Result<()>
 
 // Writes the last line.
 fn write_end<P: PieceOutput>(out: &mut P, n: usize, marks: usize) -> io::Result<()>
-    ensures { OnOk result (P.took out.old out.new (end_word ∷ (each (decimal n) ++ (marks_word ∷ last_number marks)))) }
+    ensures { Handed P.took P.broke out.old out.new (end_word ∷ (each (decimal n) ++ (marks_word ∷ last_number marks))) result }
 {
     out.put(b"end ")?;
     write_number(out, n, b" marks ")?;
@@ -131,8 +144,8 @@ fn write_end<P: PieceOutput>(out: &mut P, n: usize, marks: usize) -> io::Result<
 }
 
 // Writes a line: its pieces, in their order.
-pub fn put_line<P: PieceOutput>(out: &mut P, l: Line) -> io::Result<()>
-    ensures { OnOk result (P.took out.old out.new (line_pieces l)) }
+pub fn write_line<P: PieceOutput>(out: &mut P, l: Line) -> io::Result<()>
+    ensures { Handed P.took P.broke out.old out.new (line_pieces l) result }
 {
     match l {
         Line::Record(n, s) => {
@@ -142,11 +155,4 @@ pub fn put_line<P: PieceOutput>(out: &mut P, l: Line) -> io::Result<()>
         Line::End(n, marks) => write_end(out, n, marks),
         Line::Refused(k) => write_refusal(out, k),
     }
-}
-
-// Writes a line to an output of bytes.
-pub fn write_line<W: Write>(out: &mut W, l: Line) -> io::Result<()>
-    ensures { OnOk result (Appends (W.contents out.old) (W.contents out.new) (joined (line_pieces l))) }
-{
-    put_line(out, l)
 }

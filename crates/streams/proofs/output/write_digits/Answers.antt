@@ -1,6 +1,7 @@
-use Rattle.std.proofs.Common.{rules, arith, subst, [], ◌∷◌}
+use Rattle.std.proofs.Common.{rules, arith, subst, drop, ◌+◌, [], ◌∷◌}
+use Rattle.lines.specs.Numerals.{each}
 use Rattle.lines.specs.Decimals.{decimal}
-use Rattle.streams.proofs.output.Taking.{each_none, each_more}
+use Rattle.streams.proofs.output.Taking.{each_none, each_more, each_whole, broken}
 use Rattle.streams.proofs.output.write_digits.Goals as goal
 
 pub loop-i-init : goal.loop-i-init
@@ -11,3 +12,10 @@ loop-i-preserved g c =
     let one : g.P.PieceOutput.took c.loop-i.out c.put.new.self ((c.digit.result ∷ []) ∷ []) = search rules in
     subst (g.P.PieceOutput.took _ _) (each_more _ _ _ (omega (arith, c.loop-i-test.true, c.count-d.ensures.0)) c.digit.ensures)
     (g.met.P.PieceOutput.took_more _ _ _ _ _ c.loop-i.invariant one)
+
+pub returns-in_err-put : goal.returns-in_err-put
+returns-in_err-put g c =
+    let p = g.met.P.PieceOutput in
+    let i = c.loop-i.i in
+    broken g.P.PieceOutput.took g.P.PieceOutput.broke p.broke_later p.broke_earlier _ _ _ _ _ (each (drop (i + 1) (decimal c.args.n))) _ c.from_residual.result c.from_residual.ensures.0
+    (each_whole _ i c.digit.result (omega (arith, c.loop-i-test.true, c.count-d.ensures.0)) c.digit.ensures) c.loop-i.invariant c.in_err-put.ensures

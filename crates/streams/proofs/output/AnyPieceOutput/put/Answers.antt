@@ -1,8 +1,9 @@
 use Rattle.std.proofs.Common.{ℕ, ◌+◌, ◌-◌, ◌≡◌, List, ◌++◌, length, take, drop, arith, sym, ap, ◌∙◌, subst, take_all, length-drop}
 use Rattle.std.proofs.Math.Seq.{take-add}
 use Rattle.std.specs.Io.KnownBytes.{Appends}
-use Rattle.std.proofs.KnownBytes.{Appends-trans}
-use Rattle.streams.proofs.output.Taken.{appends_one}
+use Rattle.std.proofs.KnownBytes.{Appends-trans, Appends-kept}
+use Rattle.streams.proofs.output.Taken.{appends_one, began_one}
+use Rattle.streams.proofs.output.Taking.{on_err}
 use Rattle.streams.proofs.output.AnyPieceOutput.put.Goals as goal
 
 -- The first n of xs that are left from a place on come after those before it.
@@ -22,3 +23,16 @@ pub returns : goal.returns
 returns g c =
     let here = c.loop-done in
     appends_one _ _ _ (subst (Appends _ _) (take_all here.done c.args.piece.now (omega (arith, c.loop-done-test.false))) here.invariant.1)
+
+-- A write that fails takes nothing.
+pub returns-in_err-n : goal.returns-in_err-n
+returns-in_err-n g c =
+    let here = c.loop-done in
+    let held = Appends-kept _ _ _ _ here.invariant.1 c.in_err-n.ensures.bytes in
+    on_err c.from_residual.result _ _ c.from_residual.ensures.0 (began_one _ _ here.done c.args.piece.now held)
+
+pub returns-then-n-eq0 : goal.returns-then-n-eq0
+returns-then-n-eq0 g c =
+    let here = c.loop-done in
+    let held = Appends-trans _ _ _ _ _ here.invariant.1 c.in_ok-n.ensures.bytes in
+    began_one _ _ (here.done + c.in_ok-n.n) c.args.piece.now (subst (Appends _ _) (together here.done c.in_ok-n.n c.args.piece.now) held)
