@@ -3,3 +3,6 @@
 
 pub mod input;
 pub mod output;
+#[cfg(test)]
+mod tests;
+pub mod tracked;

@@ -1,7 +1,8 @@
 // A line written to an output, piece by piece: the letters, the sign and each digit in a write of its own. An output that failed is
-// handed nothing more.
-ghost use Rattle.std.specs.Prelude.{ℕ, List, [], ◌∷◌, ◌++◌};
+// handed nothing more; of a `TrackedOutput` that is promised.
+ghost use Rattle.std.specs.Prelude.{ℕ, ◌≡◌, List, [], ◌∷◌, ◌++◌, OnOk, ⊤, refl};
 ghost use Rattle.std.specs.Io.KnownBytes.{Appends};
+ghost use Rattle.std.proofs.Common.{◌∙◌};
 ghost use Rattle.sorts.specs.Refusals.{refusal_number};
 ghost use Rattle.frames.specs.Frames.{letters_of};
 ghost use Rattle.lines.specs.Decimals.{decimal, signed};
@@ -9,65 +10,46 @@ ghost use Rattle.lines.specs.Words.{space, newline, refused_word, end_word, mark
 ghost use Rattle.lines.specs.Numerals.{each, last_number};
 ghost use Rattle.lines.specs.declared.Said.TheVariants.{Changed};
 ghost use Rattle.lines.specs.Pieces.{said_pieces, line_pieces, joined};
-ghost use Rattle.streams.specs.Pieces.{Handed, Began, none_taken, more_taken, began_later, began_earlier};
+ghost use Rattle.streams.specs.Pieces.{Handed, Wrote, none_taken, more_taken};
 
+use crate::tracked::TrackedOutput;
 use frames::Kind;
 use lines::{Line, Said, digits};
 use marks::Counts;
 use sorts::Refusal;
 use std::io;
-use std::io::{ErrorKind, Write};
+use std::io::Write;
 
-// What takes pieces, each at once.
+// What takes pieces, each at once. It says nothing of what it is after it failed.
 pub trait PieceOutput {
     // What it was, and what it is after it took these pieces in their order.
     ghost took: { Self → Self → List (List ℕ) → Type 0 };
 
-    // What it was, and what it is after it failed at one of these pieces: it took a beginning of them, and nothing more.
-    ghost broke: { Self → Self → List (List ℕ) → Type 0 };
-
     fn put(&mut self, piece: &[u8]) -> io::Result<()>
-        ensures { Handed took broke self.old self.new (piece.now ∷ []) result };
+        ensures { OnOk result (took self.old self.new (piece.now ∷ [])) };
 
     ghost took_none: { (a : Self) → took a a [] };
 
     ghost took_more: { (a b c : Self) (ps qs : List (List ℕ)) → took a b ps → took b c qs → took a c (ps ++ qs) };
-
-    ghost broke_later: { (a b c : Self) (ps qs : List (List ℕ)) → took a b ps → broke b c qs → broke a c (ps ++ qs) };
-
-    ghost broke_earlier: { (a b : Self) (ps qs : List (List ℕ)) → broke a b ps → broke a b (ps ++ qs) };
 }
 
-// An output takes the bytes of a piece.
+// An output of bytes takes them; where it failed it took a beginning.
 impl<W: Write> PieceOutput for W {
     ghost took = { λ a b ps. Appends (W.contents a) (W.contents b) (joined ps) };
-
-    ghost broke = { λ a b ps. Began (W.contents a) (W.contents b) (joined ps) };
 
     ghost took_none = { λ a. none_taken (W.contents a) };
 
     ghost took_more = { λ a b c ps qs x y. more_taken (W.contents a) (W.contents b) (W.contents c) ps qs x y };
 
-    ghost broke_later = { λ a b c ps qs x y. began_later (W.contents a) (W.contents b) (W.contents c) ps qs x y };
-
-    ghost broke_earlier = { λ a b ps qs x. began_earlier (W.contents a) (W.contents b) ps qs x };
-
-    // A write that fails or takes nothing is the last: none is made again, as `write_all` would one that was interrupted.
-    fn put(&mut self, piece: &[u8]) -> io::Result<()> {
-        let mut done = 0;
-        while done < piece.len() {
-            let n = self.write(&piece[done..])?;
-            if n == 0 {
-                return Err(io::Error::from(ErrorKind::WriteZero));
-            }
-            done += n;
-        }
-        Ok(())
+    fn put(&mut self, piece: &[u8]) -> io::Result<()>
+        ensures { Wrote (W.contents self.old) (W.contents self.new) (joined (piece.now ∷ [])) result }
+    {
+        TrackedOutput::put(self, piece)
     }
 }
 
 // Writes a number, digit by digit: no `Display`, since each digit is a write of its own.
-fn write_digits<P: PieceOutput>(out: &mut P, n: usize) -> io::Result<()>
+fn write_digits<P: TrackedOutput>(out: &mut P, n: usize) -> io::Result<()>
     ensures { Handed P.took P.broke out.old out.new (each (decimal n)) result }
 {
     let d = digits::count(n);
@@ -78,7 +60,7 @@ fn write_digits<P: PieceOutput>(out: &mut P, n: usize) -> io::Result<()>
 }
 
 // Writes a number, and the word after it.
-fn write_number<P: PieceOutput>(out: &mut P, n: usize, word: &[u8]) -> io::Result<()>
+fn write_number<P: TrackedOutput>(out: &mut P, n: usize, word: &[u8]) -> io::Result<()>
     ensures { Handed P.took P.broke out.old out.new (each (decimal n) ++ (word.now ∷ [])) result }
 {
     write_digits(out, n)?;
@@ -86,7 +68,7 @@ fn write_number<P: PieceOutput>(out: &mut P, n: usize, word: &[u8]) -> io::Resul
 }
 
 // Writes a net after a space: its sign, then its digits.
-fn write_net<P: PieceOutput>(out: &mut P, z: i32) -> io::Result<()>
+fn write_net<P: TrackedOutput>(out: &mut P, z: i32) -> io::Result<()>
     ensures { Handed P.took P.broke out.old out.new (space ∷ each (signed z)) result }
 {
     out.put(b" ")?;
@@ -95,7 +77,7 @@ fn write_net<P: PieceOutput>(out: &mut P, z: i32) -> io::Result<()>
 }
 
 // Writes what a line says of a change, and the line's end: the letters, and the two nets.
-fn write_change<P: PieceOutput>(out: &mut P, k: Kind, c: Counts) -> io::Result<()>
+fn write_change<P: TrackedOutput>(out: &mut P, k: Kind, c: Counts) -> io::Result<()>
     ensures { Handed P.took P.broke out.old out.new (said_pieces (Changed k c)) result }
 {
     out.put(&k.letters())?;
@@ -105,7 +87,7 @@ fn write_change<P: PieceOutput>(out: &mut P, k: Kind, c: Counts) -> io::Result<(
 }
 
 // Writes what a line says of a query, and the line's end: the letters, and the word of the answer.
-fn write_answer<P: PieceOutput>(out: &mut P, k: Kind, word: &[u8]) -> io::Result<()>
+fn write_answer<P: TrackedOutput>(out: &mut P, k: Kind, word: &[u8]) -> io::Result<()>
     ensures { Handed P.took P.broke out.old out.new (letters_of k ∷ word.now ∷ newline ∷ []) result }
 {
     out.put(&k.letters())?;
@@ -114,7 +96,7 @@ fn write_answer<P: PieceOutput>(out: &mut P, k: Kind, word: &[u8]) -> io::Result
 }
 
 // Writes a refusal, and the line's end.
-fn write_refusal<P: PieceOutput>(out: &mut P, k: Refusal) -> io::Result<()>
+fn write_refusal<P: TrackedOutput>(out: &mut P, k: Refusal) -> io::Result<()>
     ensures { Handed P.took P.broke out.old out.new (refused_word ∷ last_number (refusal_number k)) result }
 {
     out.put(b"refused ")?;
@@ -122,7 +104,7 @@ fn write_refusal<P: PieceOutput>(out: &mut P, k: Refusal) -> io::Result<()>
 }
 
 // Writes what a record's line says.
-fn write_said<P: PieceOutput>(out: &mut P, s: Said) -> io::Result<()>
+fn write_said<P: TrackedOutput>(out: &mut P, s: Said) -> io::Result<()>
     ensures { Handed P.took P.broke out.old out.new (said_pieces s) result }
 {
     match s {
@@ -135,7 +117,7 @@ fn write_said<P: PieceOutput>(out: &mut P, s: Said) -> io::Result<()>
 }
 
 // Writes the last line.
-fn write_end<P: PieceOutput>(out: &mut P, n: usize, marks: usize) -> io::Result<()>
+fn write_end<P: TrackedOutput>(out: &mut P, n: usize, marks: usize) -> io::Result<()>
     ensures { Handed P.took P.broke out.old out.new (end_word ∷ (each (decimal n) ++ (marks_word ∷ last_number marks))) result }
 {
     out.put(b"end ")?;
@@ -144,7 +126,7 @@ fn write_end<P: PieceOutput>(out: &mut P, n: usize, marks: usize) -> io::Result<
 }
 
 // Writes a line: its pieces, in their order.
-pub fn write_line<P: PieceOutput>(out: &mut P, l: Line) -> io::Result<()>
+pub fn write_line<P: TrackedOutput>(out: &mut P, l: Line) -> io::Result<()>
     ensures { Handed P.took P.broke out.old out.new (line_pieces l) result }
 {
     match l {
@@ -155,4 +137,37 @@ pub fn write_line<P: PieceOutput>(out: &mut P, l: Line) -> io::Result<()>
         Line::End(n, marks) => write_end(out, n, marks),
         Line::Refused(k) => write_refusal(out, k),
     }
+}
+
+// An output that took what its `PieceOutput` says, and of which nothing is known where it failed. The reference in it stays the one that
+// was lent, so what is known of its output is known of the lender's.
+#[derive(Drop)]
+struct Untracked<'a, P> {
+    out: &'a mut P,
+}
+
+impl<'a, P: PieceOutput> TrackedOutput for Untracked<'a, P> {
+    ghost took = { λ a b ps. (b.out.ghost_name ≡ a.out.ghost_name) × P.took a.out.now b.out.now ps };
+
+    ghost broke = { λ a b ps. ⊤ };
+
+    ghost took_none = { λ a. (refl, P.took_none a.out.now) };
+
+    ghost took_more = { λ a b c ps qs x y. (y.0 ∙ x.0, P.took_more a.out.now b.out.now c.out.now ps qs x.1 y.1) };
+
+    ghost broke_later = { λ a b c ps qs x y. tt };
+
+    ghost broke_earlier = { λ a b ps qs x. tt };
+
+    fn put(&mut self, piece: &[u8]) -> io::Result<()> {
+        self.out.put(piece)
+    }
+}
+
+// Writes a line, as `write_line` does, to what takes pieces and says nothing of where it failed: so nothing is promised there.
+pub fn put_line<P: PieceOutput>(out: &mut P, l: Line) -> io::Result<()>
+    ensures { OnOk result (P.took out.old out.new (line_pieces l)) }
+{
+    let mut untracked = Untracked { out };
+    write_line(&mut untracked, l)
 }

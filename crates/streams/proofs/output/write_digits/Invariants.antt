@@ -4,4 +4,4 @@ use Rattle.lines.specs.Numerals.{each}
 use Rattle.streams.proofs.output.write_digits.Given as goal
 
 abbrev pub invariant-loop-i : goal.invariant-loop-i
-invariant-loop-i g l = g.P.PieceOutput.took l.fn.out l.out (each (take l.i (decimal l.n)))
+invariant-loop-i g l = g.P.TrackedOutput.took l.fn.out l.out (each (take l.i (decimal l.n)))

@@ -4,7 +4,7 @@ use Rattle.std.specs.Io.KnownBytes.{Appends}
 use Rattle.std.proofs.KnownBytes.{Appends-trans, Appends-kept}
 use Rattle.streams.proofs.output.Taken.{appends_one, began_one}
 use Rattle.streams.proofs.output.Taking.{on_err}
-use Rattle.streams.proofs.output.AnyPieceOutput.put.Goals as goal
+use Rattle.streams.proofs.tracked.AnyTrackedOutput.put.Goals as goal
 
 -- The first n of xs that are left from a place on come after those before it.
 together : (at n : ℕ) (xs : List ℕ) → take at xs ++ take n (take (length xs - at) (drop at xs)) ≡ take (at + n) xs
