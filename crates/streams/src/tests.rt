@@ -121,6 +121,16 @@ fn nothing_follows_a_failure(rt: HostRuntime) {
 }
 
 #[test]
+fn bytes_take_a_piece(rt: HostRuntime) -> Result<(), Fail> {
+    let mut out = Cursor::new([0u8; 3]);
+    out.put(b"li")?;
+    assert_eq!(rt; out.get_ref().as_slice(), b"li\0".as_slice());
+    assert!(rt; out.put(b" +").is_err());
+    assert_eq!(rt; out.get_ref().as_slice(), b"li ".as_slice());
+    Ok(())
+}
+
+#[test]
 fn bytes_take_a_line(rt: HostRuntime) -> Result<(), Fail> {
     let mut out = Cursor::new([0u8; 18]);
     put_line(&mut out, Line::End(13, 402))?;
