@@ -33,7 +33,7 @@ pub trait PieceOutput {
     ghost took_more: { (a b c : Self) (ps qs : List (List ℕ)) → took a b ps → took b c qs → took a c (ps ++ qs) };
 }
 
-// An output of bytes takes them; where it failed it took a beginning.
+// An output takes the bytes of a piece; where it failed it took a beginning of them.
 impl<W: Write> PieceOutput for W {
     ghost took = { λ a b ps. Appends (W.contents a) (W.contents b) (joined ps) };
 
@@ -139,8 +139,8 @@ pub fn write_line<P: TrackedOutput>(out: &mut P, l: Line) -> io::Result<()>
     }
 }
 
-// An output that took what its `PieceOutput` says, and of which nothing is known where it failed. The reference in it stays the one that
-// was lent, so what is known of its output is known of the lender's.
+// Lends a `PieceOutput` as a `TrackedOutput`, of which nothing is said where it failed. The reference stays the one that was lent, so that
+// what it took, the lender's output took.
 #[derive(Drop)]
 struct Untracked<'a, P> {
     out: &'a mut P,
